@@ -1,0 +1,37 @@
+//! The vocabulary of the machine: pages, frames and blocks, calls and replies, the geometry,
+//! the plain slow machine, and the definitions that every other crate cites.
+#![tactic(auto)]
+
+mod call;
+mod cells;
+mod device;
+mod entry;
+mod geometry;
+mod laws;
+mod list;
+mod names;
+mod plain;
+mod reply;
+mod scenario;
+mod slot;
+
+pub use call::Call;
+pub use cells::Cells;
+pub use device::{Config, Request, Response, STATE_MIXED, STATE_PLUGGED, STATE_UNPLUGGED};
+pub use entry::{Entry, EntryList};
+pub use geometry::{Geometry, GeometryFault};
+pub use laws::{
+    lease_counts_for_alloc_alone, legal_push, legal_tickets, pages_stay_in_size,
+    refusal_changes_nothing,
+};
+pub use list::{BlockList, ByteList, Listed, NumberList};
+pub use names::{BlockNo, FrameNo, Kind, OutOfMemory, PageNo};
+pub use plain::Plain;
+pub use reply::Reply;
+pub use scenario::{
+    Actor, CallList, Drawn, LineCause, Scenario, ScenarioFault, ScriptList, StartPage,
+    StartPageList, Turn, TurnList,
+};
+
+#[cfg(test)]
+mod tests;
