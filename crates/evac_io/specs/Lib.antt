@@ -1,0 +1,4 @@
+pub mod Edge
+pub mod Fault
+pub mod Memory
+pub mod Told
