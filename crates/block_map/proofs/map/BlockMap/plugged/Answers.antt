@@ -1,0 +1,16 @@
+use Rattle.std.proofs.Common.{List, ℕ, ◌∙◌, ap, sym, arith}
+use Rattle.std.proofs.lemmas.Bool.{le-ltb}
+use Rattle.block_map.specs.Bits.{has_bit}
+use Rattle.block_map.proofs.Maps.{is_in-value, is_in-value_past}
+use Rattle.block_map.proofs.map.BlockMap.plugged.Goals as goal
+
+pub returns-then-b-managed : goal.returns-then-b-managed
+returns-then-b-managed c =
+    c.bit.ensures
+    ∙ ap (λ (ws : List ℕ). has_bit ws c.args.b.0) c.deref.ensures.value
+    ∙ sym (is_in-value c.self.inside.geometry (has_bit c.self.inside.words.items) c.args.self.now c.self.view_is c.args.b.0 (omega arith))
+
+pub returns-else-b-managed : goal.returns-else-b-managed
+returns-else-b-managed c =
+    le-ltb c.args.b.0 c.managed.result (omega arith)
+    ∙ sym (is_in-value_past c.self.inside.geometry (has_bit c.self.inside.words.items) c.args.self.now c.self.view_is c.args.b.0 (omega arith))
