@@ -1,0 +1,5 @@
+pub mod Fields
+pub mod RequestBytes
+pub mod ResponseBytes
+pub mod ConfigBytes
+pub mod Reading
