@@ -1,0 +1,426 @@
+-- How a core is opened is an opening, and so it is sound.
+use Rattle.std.proofs.Common.{◌≡◌, ◌≢◌, ℕ, Bool, cond, eqb, zero, suc, ◌+◌, ◌-◌, ◌<◌, ◌≤◌, ◌^◌, true, false, nat_eq, ◌⊎◌, List, [], ◌∷◌, ◌++◌, length, map, set, take, replicate, sum, get_or, get_or-set_same, get_or-set_other, Option, None, Some, IsSome, refl, sym, ap, subst, ◌∙◌, inl, inr, ⊎_elim, arith, eq-eqb, ne_eqb}
+use Rattle.std.specs.Prelude.{is_some}
+use Rattle.std.proofs.lemmas.List.{length-replicate, take-replicate, drop-replicate, get_or-replicate, get_or_past, get_or_append_left}
+use Rattle.std.proofs.Math.Seq.{get_or-append_right}
+use Rattle.std.proofs.lemmas.List.Sums.{sum_by-cons, sum_by-append}
+use Rattle.std.proofs.lemmas.Map.Keys.{IsDistinct-head, IsDistinct-tail}
+use Rattle.std.proofs.lemmas.Option.{same_Some, none-some}
+use Rattle.std.specs.List.{AllByRecursion, IsDistinct, sum_by}
+use mathlib.Core.Logic.{dite}
+use native.Mathlib.Decide.{ℕ_discrete, dec_le}
+use Rattle.evac_model.specs.declared.names.Kind.{Kind}
+use Rattle.evac_model.specs.declared.scenario.StartPage.{StartPage}
+use Rattle.evac_model.specs.Geometry.{Sizes, IsWithinLimits, frame_count}
+use Rattle.evac_model.specs.Page.{Page, new_page, zeros, kind_of}
+use Rattle.evac_model.specs.StartPages.{IsStartPage, AreStartPages}
+use Rattle.evac_words.specs.Word.{taken_bit, moving_bit, mapped_bit, frame_of, bound_of, bit_of}
+use Rattle.evac_words.specs.Table.{entry_index, dirty_index, cell_index, table_length}
+use Rattle.core_state.specs.declared.hand.HandFrame.{HandFrame}
+use Rattle.core_state.specs.declared.opening.Opening.{Opening}
+use Rattle.core_state.specs.declared.scan.Scan.{Scan}
+use Rattle.core_state.specs.declared.view.View.{View}
+use Rattle.core_state.specs.Words.{next_ticket_of, entry_word_of, dirty_word_of, cells_of_frame, unmovable_for, mapped_word}
+use Rattle.core_state.specs.Views.{Has, movers, right_to, times_in_hand, times_in_hands, maps_to, scans}
+use Rattle.core_state.specs.Parts.{Shaped, all_left}
+use Rattle.core_state.specs.Pages.{page_cells, Flagged, Shows, FreeShows}
+use Rattle.core_state.specs.Frames.{all_entry_words, times_mapped}
+use Rattle.core_state.specs.Image.{copy_of}
+use Rattle.core_state.specs.Opens.{IsNew, Opens}
+use Rattle.core_state.specs.CoreOpens.{start_pages, opening_of, opening_words, frames_there, fresh_frame, empty_places, fresh_places, free_hand, unplugged_hand, new_view, driver_view, owner_view, owner_views, new_scan, scanner_view, keeper_view, keeper_views, opening_views}
+use Rattle.core_state.proofs.Lists.{sum_by_replaced}
+use Rattle.core_state.proofs.EntryWords.{Fits, taken_bit-packed, moving_bit-packed, mapped_bit-packed, unmovable_bit-packed, pins_of-packed, frame_of-packed, bound_of-packed}
+use Rattle.core_state.proofs.WordsAt.{next_ticket-entry, cells_of_frame-before, entry_word-here, entry_word-other}
+use Rattle.core_state.proofs.Cells.{at_entry, all_entry_words-set}
+use Rattle.core_state.proofs.Frames.{maps_to-one}
+use Rattle.core_state.proofs.StepPlaces.{row_within}
+use Rattle.core_state.proofs.Starts.{length-start_pages, length-opening_words, length-free_hand, length-unplugged_hand, there_within, frame_within}
+
+-- ---- the word of a start page
+
+word_fits : (frame : ℕ) (kind : Kind) → frame < 65536 → Fits 0 0 1 (unmovable_for kind) 0 frame
+word_fits frame Kind.Movable low = record { taken_fits = omega arith; moving_fits = omega arith; mapped_fits = omega arith; unmovable_fits = omega arith; pins_fits = omega arith; frame_fits = omega arith }
+word_fits frame Kind.Unmovable low = record { taken_fits = omega arith; moving_fits = omega arith; mapped_fits = omega arith; unmovable_fits = omega arith; pins_fits = omega arith; frame_fits = omega arith }
+
+kind_back : (kind : Kind) → kind_of (eqb (unmovable_for kind) 0) ≡ kind
+kind_back Kind.Movable = refl
+kind_back Kind.Unmovable = refl
+
+-- what an entry word and a page are at the start: both of no page, or both of a start page
+abbrev IsUnmapped : ℕ → Page → Type 0
+IsUnmapped w m = (w ≡ 0) × (m ≡ None)
+
+record IsMapped (s : Sizes) (w : ℕ) (m : Page) : Type 0 where
+  frame : ℕ
+  kind : Kind
+  low : frame < frame_count s
+  word : w ≡ mapped_word 0 frame kind
+  page : m ≡ Some (new_page s.cells kind)
+
+-- ---- lists of equal items
+
+get_or_same : {A : Type 0} (n i : ℕ) (x : A) → get_or (replicate n x) i x ≡ x
+get_or_same zero i x = refl
+get_or_same (suc n) zero x = refl
+get_or_same (suc n) (suc i) x = get_or_same n i x
+
+-- ---- a number that isn't among others
+
+number_apart : (f g : ℕ) → nat_eq f g ≡ false → f ≢ g
+number_apart f g h e = absurd (let t : nat_eq f g ≡ true = eq-eqb f g e in cc)
+
+abbrev Apart : ℕ → List ℕ → Type 0
+Apart x ys = AllByRecursion (λ y. nat_eq x y ≡ false) ys
+
+module _ (s : Sizes) (w : IsWithinLimits s) where
+  pages_small : s.pages ≤ 65536
+  pages_small = w.pages.1
+
+  frames_small : frame_count s ≤ 65536
+  frames_small = w.frames
+
+  -- ---- entry words and pages
+
+  entry_in : (ps : List StartPage) (page : ℕ) → page < s.pages → entry_index page < length (opening_words s ps)
+  entry_in ps page lt = let a = length-opening_words s ps in omega arith
+
+  page_in : (ps : List StartPage) (page : ℕ) → page < s.pages → page < length (start_pages s ps)
+  page_in ps page lt = let a = length-start_pages s ps in omega arith
+
+  at_start : (ps : List StartPage) (page : ℕ) → AllByRecursion (IsStartPage s) ps → page < s.pages
+      → IsUnmapped (entry_word_of (opening_words s ps) page) (get_or (start_pages s ps) page None) ⊎ IsMapped s (entry_word_of (opening_words s ps) page) (get_or (start_pages s ps) page None)
+  at_start [] page each lt = inl (get_or_same (table_length s.pages (frame_count s) s.cells) (entry_index page) 0, get_or_same s.pages page None)
+  at_start (p ∷ ps) page each lt = dite (ℕ_discrete page p.page.0)
+      (λ e. inr (record {
+        frame = p.frame.0;
+        kind = p.kind;
+        low = frame_within s p w each.0;
+        word = ap (λ (q : ℕ). entry_word_of (opening_words s (p ∷ ps)) q) e ∙ entry_word-here (opening_words s ps) (mapped_word 0 p.frame.0 p.kind) p.page.0 (entry_in ps p.page.0 each.0.page);
+        page = ap (λ (q : ℕ). get_or (start_pages s (p ∷ ps)) q None) e ∙ get_or-set_same (start_pages s ps) p.page.0 (Some (new_page s.cells p.kind)) None (page_in ps p.page.0 each.0.page);
+      }))
+      (λ ne. let a = entry_word-other (opening_words s ps) p.page.0 (mapped_word 0 p.frame.0 p.kind) page ne in
+      let b = get_or-set_other (start_pages s ps) p.page.0 page (Some (new_page s.cells p.kind)) None ne in
+      ⊎_elim
+      (λ q. inl (a ∙ q.0, b ∙ q.1))
+      (λ q. inr (record { frame = q.frame; kind = q.kind; low = q.low; word = a ∙ q.word; page = b ∙ q.page }))
+      (at_start ps page each.1 lt))
+
+  -- the word of a page that no start page names
+  word_unnamed : (ps : List StartPage) (page : ℕ) → Apart page (map (λ p. p.page.0) ps) → entry_word_of (opening_words s ps) page ≡ 0
+  word_unnamed [] page apart = get_or_same (table_length s.pages (frame_count s) s.cells) (entry_index page) 0
+  word_unnamed (p ∷ ps) page apart = entry_word-other (opening_words s ps) p.page.0 (mapped_word 0 p.frame.0 p.kind) page (number_apart page p.page.0 apart.0) ∙ word_unnamed ps page apart.1
+
+  first_zero : (ps : List StartPage) → next_ticket_of (opening_words s ps) ≡ 0
+  first_zero [] = get_or_same (table_length s.pages (frame_count s) s.cells) 0 0
+  first_zero (p ∷ ps) = next_ticket-entry (opening_words s ps) p.page.0 (mapped_word 0 p.frame.0 p.kind) ∙ first_zero ps
+
+  -- ---- hands
+
+  abbrev at_hand : ℕ → List (Option HandFrame) → ℕ
+  at_hand f hand = bit_of (is_some (get_or hand f None))
+
+  at_hand_none : (f : ℕ) (hand : List (Option HandFrame)) → get_or hand f None ≡ None → at_hand f hand ≡ 0
+  at_hand_none f hand e = ap (λ (m : Option HandFrame). bit_of (is_some m)) e
+
+  at_hand_fresh : (f : ℕ) (hand : List (Option HandFrame)) → get_or hand f None ≡ Some (fresh_frame s.cells) → at_hand f hand ≡ 1
+  at_hand_fresh f hand e = ap (λ (m : Option HandFrame). bit_of (is_some m)) e
+
+  at_empty : (n f : ℕ) → at_hand f (empty_places n) ≡ 0
+  at_empty n f = at_hand_none f (empty_places n) (get_or_same n f None)
+
+  there_low : (ps : List StartPage) (f : ℕ) → f < frames_there s → Apart f (map (λ p. p.frame.0) ps) → get_or (free_hand s ps) f None ≡ Some (fresh_frame s.cells)
+  there_low [] f lt apart =
+      let a = length-replicate {A = Option HandFrame} (frames_there s) (Some (fresh_frame s.cells)) in
+      get_or_append_left (fresh_places s.cells (frames_there s)) (empty_places (frame_count s - frames_there s)) None f (omega arith)
+      ∙ get_or-replicate (frames_there s) f (Some (fresh_frame s.cells)) None lt
+  there_low (p ∷ ps) f lt apart = get_or-set_other (free_hand s ps) p.frame.0 f None None (number_apart f p.frame.0 apart.0) ∙ there_low ps f lt apart.1
+
+  there_high : (ps : List StartPage) (f : ℕ) → frames_there s ≤ f → get_or (free_hand s ps) f None ≡ None
+  there_high [] f le =
+      let a = length-replicate {A = Option HandFrame} (frames_there s) (Some (fresh_frame s.cells)) in
+      get_or-append_right (fresh_places s.cells (frames_there s)) (empty_places (frame_count s - frames_there s)) f None (omega arith)
+      ∙ get_or_same (frame_count s - frames_there s) (f - length (fresh_places s.cells (frames_there s))) None
+  there_high (p ∷ ps) f le = hand_cases (free_hand s ps) p.frame.0 f (there_high ps f le) where
+    hand_cases : (l : List (Option HandFrame)) (k q : ℕ) → get_or l q None ≡ None → get_or (set l k None) q None ≡ None
+    hand_cases [] k q e = refl
+    hand_cases (x ∷ xs) zero zero e = refl
+    hand_cases (x ∷ xs) zero (suc q) e = e
+    hand_cases (x ∷ xs) (suc k) zero e = e
+    hand_cases (x ∷ xs) (suc k) (suc q) e = hand_cases xs k q e
+
+  unplugged_low : (f : ℕ) → f < frames_there s → at_hand f (unplugged_hand s) ≡ 0
+  unplugged_low f lt = at_hand_none f (unplugged_hand s)
+      (let a = length-replicate {A = Option HandFrame} (frames_there s) None in
+      get_or_append_left (empty_places (frames_there s)) (fresh_places s.cells (frame_count s - frames_there s)) None f (omega arith)
+      ∙ get_or_same (frames_there s) f None)
+
+  unplugged_mid : (f : ℕ) → frames_there s ≤ f → f < frame_count s → at_hand f (unplugged_hand s) ≡ 1
+  unplugged_mid f le lt = at_hand_fresh f (unplugged_hand s)
+      (let a = length-replicate {A = Option HandFrame} (frames_there s) None in
+      get_or-append_right (empty_places (frames_there s)) (fresh_places s.cells (frame_count s - frames_there s)) f None (omega arith)
+      ∙ get_or-replicate (frame_count s - frames_there s) (f - length (empty_places (frames_there s))) (Some (fresh_frame s.cells)) None (omega arith))
+
+  unplugged_past : (f : ℕ) → frame_count s ≤ f → at_hand f (unplugged_hand s) ≡ 0
+  unplugged_past f le = at_hand_none f (unplugged_hand s) (get_or_past (unplugged_hand s) f None (let a = length-unplugged_hand s w in omega arith))
+
+  -- ---- frames of pages and frames in the free hand
+
+  module _ (start : List StartPage) (budgets : List ℕ) where
+    abbrev o : Opening
+    o = opening_of s start budgets
+
+    shaped : (ps : List StartPage) → Shaped (opening_of s start budgets) (opening_words s ps)
+    shaped ps = record { long = length-opening_words s ps }
+
+    no_words : (f n : ℕ) → sum_by (λ x. maps_to f x) (replicate n 0) ≡ 0
+    no_words f zero = refl
+    no_words f (suc n) = let a = sum_by-cons (λ x. maps_to f x) 0 (replicate n 0) in let b = no_words f n in omega arith
+
+    unmapped_frame : (f : ℕ) → times_mapped (opening_of s start budgets) f (opening_words s []) ≡ 0
+    unmapped_frame f =
+        ap (λ (l : List ℕ). sum_by (λ x. maps_to f x) (take s.pages l)) (drop-replicate 1 (table_length s.pages (frame_count s) s.cells) 0)
+        ∙ ap (λ (l : List ℕ). sum_by (λ x. maps_to f x) l) (take-replicate s.pages (table_length s.pages (frame_count s) s.cells - 1) 0 (omega arith))
+        ∙ no_words f s.pages
+
+    maps_to_here : (frame : ℕ) (kind : Kind) → frame < frame_count s → maps_to frame (mapped_word 0 frame kind) ≡ 1
+    maps_to_here frame kind low = let r = word_fits frame kind (let a = frames_small in omega arith) in
+        maps_to-one frame (mapped_word 0 frame kind) (mapped_bit-packed 0 0 1 (unmovable_for kind) 0 frame 0 r) (frame_of-packed 0 0 1 (unmovable_for kind) 0 frame 0 r)
+
+    maps_to_other : (f frame : ℕ) (kind : Kind) → frame < frame_count s → f ≢ frame → maps_to f (mapped_word 0 frame kind) ≡ 0
+    maps_to_other f frame kind low ne = let r = word_fits frame kind (let a = frames_small in omega arith) in
+        ap (λ (b : Bool). cond b (cond (eqb (frame_of (mapped_word 0 frame kind)) f) 1 0) 0) (eq-eqb (mapped_bit (mapped_word 0 frame kind)) 1 (mapped_bit-packed 0 0 1 (unmovable_for kind) 0 frame 0 r))
+        ∙ ap (λ (b : Bool). cond b 1 0) (ne_eqb (frame_of (mapped_word 0 frame kind)) f (λ e. ne (sym e ∙ frame_of-packed 0 0 1 (unmovable_for kind) 0 frame 0 r)))
+
+    -- one more start page takes its frame out of the free hand, and no other
+    free_total : (ps : List StartPage) (f : ℕ) → AllByRecursion (IsStartPage s) ps → IsDistinct nat_eq (map (λ p. p.page.0) ps) → IsDistinct nat_eq (map (λ p. p.frame.0) ps)
+        → times_mapped (opening_of s start budgets) f (opening_words s ps) + at_hand f (free_hand s ps) ≡ at_hand f (free_hand s [])
+    free_total [] f each pages frames = let a = unmapped_frame f in omega arith
+    free_total (p ∷ ps) f each pages frames =
+        let low = frame_within s p w each.0 in
+        let rest = free_total ps f each.1 (IsDistinct-tail nat_eq p.page.0 (map (λ q. q.page.0) ps) pages) (IsDistinct-tail nat_eq p.frame.0 (map (λ q. q.frame.0) ps) frames) in
+        let gap = word_unnamed ps p.page.0 (IsDistinct-head nat_eq p.page.0 (map (λ q. q.page.0) ps) pages) in
+        let more : times_mapped (opening_of s start budgets) f (opening_words s (p ∷ ps)) ≡ times_mapped (opening_of s start budgets) f (opening_words s ps) + maps_to f (mapped_word 0 p.frame.0 p.kind) =
+        let a = sum_by_replaced (λ x. maps_to f x) (all_entry_words (opening_of s start budgets) (opening_words s ps)) p.page.0 (entry_word_of (opening_words s ps) p.page.0) (mapped_word 0 p.frame.0 p.kind) (at_entry (opening_of s start budgets) (opening_words s ps) p.page.0 (shaped ps) each.0.page) in
+        let b = ap (λ (l : List ℕ). sum_by (λ x. maps_to f x) l) (all_entry_words-set (opening_of s start budgets) (opening_words s ps) p.page.0 (mapped_word 0 p.frame.0 p.kind) each.0.page) in
+        let c : maps_to f (entry_word_of (opening_words s ps) p.page.0) ≡ 0 = ap (λ x. maps_to f x) gap in
+        omega arith in
+        dite (ℕ_discrete f p.frame.0)
+        (λ e. let one : maps_to f (mapped_word 0 p.frame.0 p.kind) ≡ 1 = ap (λ g. maps_to g (mapped_word 0 p.frame.0 p.kind)) e ∙ maps_to_here p.frame.0 p.kind low in
+        let was : at_hand f (free_hand s ps) ≡ 1 = at_hand_fresh f (free_hand s ps) (ap (λ g. get_or (free_hand s ps) g None) e ∙ there_low ps p.frame.0 each.0.frame (IsDistinct-head nat_eq p.frame.0 (map (λ q. q.frame.0) ps) frames)) in
+        let is : at_hand f (free_hand s (p ∷ ps)) ≡ 0 = at_hand_none f (free_hand s (p ∷ ps)) (ap (λ g. get_or (free_hand s (p ∷ ps)) g None) e ∙ get_or-set_same (free_hand s ps) p.frame.0 None None (let a = length-free_hand s ps w in omega arith)) in
+        omega arith)
+        (λ ne. let no = maps_to_other f p.frame.0 p.kind low ne in
+        let same : at_hand f (free_hand s (p ∷ ps)) ≡ at_hand f (free_hand s ps) = ap (λ (m : Option HandFrame). bit_of (is_some m)) (get_or-set_other (free_hand s ps) p.frame.0 f None None ne) in
+        omega arith)
+
+    -- ---- sums over the views
+
+    no_frame : (f : ℕ) (k : ℕ) (ns : List ℕ) → sum_by (λ v. times_in_hand f v) (owner_views s k ns) ≡ 0
+    no_frame f k [] = refl
+    no_frame f k (n ∷ ns) = let a = sum_by-cons (λ v. times_in_hand f v) (owner_view s k n) (owner_views s (k + 1) ns) in let b = at_empty (frame_count s) f in let c = no_frame f (k + 1) ns in omega arith
+
+    -- a sum over all views
+    sum_views : (g : View → ℕ) → sum_by g (opening_views s start budgets) ≡ g (driver_view s) + (sum_by g (owner_views s 1 budgets) + (g (scanner_view s) + (g (keeper_view s (free_hand s start)) + g (keeper_view s (unplugged_hand s)))))
+    sum_views g =
+        let a = sum_by-cons g (driver_view s) (owner_views s 1 budgets ++ scanner_view s ∷ keeper_views s start) in
+        let b = sum_by-append g (owner_views s 1 budgets) (scanner_view s ∷ keeper_views s start) in
+        let c = sum_by-cons g (scanner_view s) (keeper_views s start) in
+        let d = sum_by-cons g (keeper_view s (free_hand s start)) (keeper_view s (unplugged_hand s) ∷ []) in
+        let e = sum_by-cons g (keeper_view s (unplugged_hand s)) [] in
+        omega arith
+
+    in_hands : (f : ℕ) → times_in_hands f (opening_views s start budgets) ≡ at_hand f (free_hand s start) + at_hand f (unplugged_hand s)
+    in_hands f = let a = sum_views (λ v. times_in_hand f v) in let b = no_frame f 1 budgets in let c = at_empty (frame_count s) f in omega arith
+
+    owners_left : (k : ℕ) (ns : List ℕ) → sum_by (λ v. v.left) (owner_views s k ns) ≡ sum ns
+    owners_left k [] = refl
+    owners_left k (n ∷ ns) = let a = sum_by-cons (λ (v : View). v.left) (owner_view s k n) (owner_views s (k + 1) ns) in let b = sum_by-cons (λ (x : ℕ). x) n ns in let c = owners_left (k + 1) ns in omega arith
+
+    pub budget : all_left (opening_views s start budgets) ≡ sum budgets
+    budget = let a = sum_views (λ v. v.left) in let b = owners_left 1 budgets in omega arith
+
+    owners_stay : (page k : ℕ) (ns : List ℕ) → sum_by (λ v. right_to page v) (owner_views s k ns) ≡ 0
+    owners_stay page k [] = refl
+    owners_stay page k (n ∷ ns) = let a = sum_by-cons (λ (v : View). right_to page v) (owner_view s k n) (owner_views s (k + 1) ns) in let c = owners_stay page (k + 1) ns in omega arith
+
+    bit_small : (b : Bool) → bit_of b ≤ 1
+    bit_small true = omega arith
+    bit_small false = omega arith
+
+    one_mover : (page : ℕ) → movers page (opening_views s start budgets) ≤ 1
+    one_mover page = let a = sum_views (λ v. right_to page v) in let b = owners_stay page 1 budgets in let c = bit_small (get_or (replicate s.pages true) page false) in omega arith
+
+    owners_scan : (k : ℕ) (ns : List ℕ) → sum_by scans (owner_views s k ns) ≡ 0
+    owners_scan k [] = refl
+    owners_scan k (n ∷ ns) = let a = sum_by-cons scans (owner_view s k n) (owner_views s (k + 1) ns) in let c = owners_scan (k + 1) ns in omega arith
+
+    one_scanner : sum_by scans (opening_views s start budgets) ≤ 1
+    one_scanner = let a = sum_views scans in let b = owners_scan 1 budgets in omega arith
+
+    -- ---- each seat is new
+
+    new_is_new : (caller : Option ℕ) (left : ℕ) (mover : List Bool) (hand : List (Option HandFrame)) (scan : Option Scan) → (0 < left → IsSome caller)
+        → ((f : ℕ) (x : HandFrame) → get_or hand f None ≡ Some x → x.stores ≡ replicate s.cells None)
+        → ((z : Scan) (f : ℕ) → scan ≡ Some z → copy_of z f ≡ [])
+        → IsNew (opening_of s start budgets) (new_view s caller left mover hand scan)
+    new_is_new caller left mover hand scan called fresh copies = record {
+      held = refl;
+      entries = refl;
+      by_right = refl;
+      last = refl;
+      unmarked = refl;
+      seen = refl;
+      caller = called;
+      hand = fresh;
+      scan = copies;
+    }
+
+    nothing_fresh : (n f : ℕ) (x : HandFrame) → get_or (empty_places n) f None ≡ Some x → x.stores ≡ replicate s.cells None
+    nothing_fresh n f x is = absurd (none-some x (sym (get_or_same n f None) ∙ is))
+
+    fresh_is : (x : HandFrame) → Some (fresh_frame s.cells) ≡ Some x → x.stores ≡ replicate s.cells None
+    fresh_is x e = ap (λ (y : HandFrame). y.stores) (sym (same_Some (fresh_frame s.cells) x e))
+
+    fresh_fresh : (n f : ℕ) (x : HandFrame) → get_or (fresh_places s.cells n) f None ≡ Some x → x.stores ≡ replicate s.cells None
+    fresh_fresh zero f x is = absurd (none-some x is)
+    fresh_fresh (suc n) zero x is = fresh_is x is
+    fresh_fresh (suc n) (suc f) x is = fresh_fresh n f x is
+
+    both_fresh : (a b : List (Option HandFrame)) → ((f : ℕ) (x : HandFrame) → get_or a f None ≡ Some x → x.stores ≡ replicate s.cells None) → ((f : ℕ) (x : HandFrame) → get_or b f None ≡ Some x → x.stores ≡ replicate s.cells None)
+        → (f : ℕ) (x : HandFrame) → get_or (a ++ b) f None ≡ Some x → x.stores ≡ replicate s.cells None
+    both_fresh [] b p q f x is = q f x is
+    both_fresh (m ∷ a) b p q zero x is = p zero x is
+    both_fresh (m ∷ a) b p q (suc f) x is = both_fresh a b (λ g y e. p (suc g) y e) q f x is
+
+    less_fresh : (l : List (Option HandFrame)) (k : ℕ) → ((f : ℕ) (x : HandFrame) → get_or l f None ≡ Some x → x.stores ≡ replicate s.cells None) → (f : ℕ) (x : HandFrame) → get_or (set l k None) f None ≡ Some x → x.stores ≡ replicate s.cells None
+    less_fresh [] k p f x is = absurd (none-some x is)
+    less_fresh (m ∷ l) zero p zero x is = absurd (none-some x is)
+    less_fresh (m ∷ l) zero p (suc f) x is = p (suc f) x is
+    less_fresh (m ∷ l) (suc k) p zero x is = p zero x is
+    less_fresh (m ∷ l) (suc k) p (suc f) x is = less_fresh l k (λ g y e. p (suc g) y e) f x is
+
+    free_fresh : (ps : List StartPage) (f : ℕ) (x : HandFrame) → get_or (free_hand s ps) f None ≡ Some x → x.stores ≡ replicate s.cells None
+    free_fresh [] = both_fresh (fresh_places s.cells (frames_there s)) (empty_places (frame_count s - frames_there s)) (fresh_fresh (frames_there s)) (nothing_fresh (frame_count s - frames_there s))
+    free_fresh (p ∷ ps) = less_fresh (free_hand s ps) p.frame.0 (free_fresh ps)
+
+    no_scan : (z : Scan) (f : ℕ) → None ≡ Some z → copy_of z f ≡ []
+    no_scan z f e = absurd (none-some z e)
+
+    new_scan_is : (z : Scan) (f : ℕ) → Some (new_scan s) ≡ Some z → copy_of z f ≡ []
+    new_scan_is z f e = ap (λ (y : Scan). copy_of y f) (sym (same_Some (new_scan s) z e)) ∙ get_or_same (frame_count s) f []
+
+    no_left : (caller : Option ℕ) → 0 < 0 → IsSome caller
+    no_left caller h = absurd (omega arith)
+
+    new_last : (i : ℕ) (v : View) → Has (scanner_view s ∷ keeper_views s start) i v → IsNew (opening_of s start budgets) v
+    new_last zero v has = subst (λ (x : View). IsNew (opening_of s start budgets) x) (same_Some (scanner_view s) v has)
+        (new_is_new None 0 [] (empty_places (frame_count s)) (Some (new_scan s)) (no_left None) (nothing_fresh (frame_count s)) new_scan_is)
+    new_last (suc zero) v has = subst (λ (x : View). IsNew (opening_of s start budgets) x) (same_Some (keeper_view s (free_hand s start)) v has)
+        (new_is_new None 0 [] (free_hand s start) None (no_left None) (free_fresh start) no_scan)
+    new_last (suc (suc zero)) v has = subst (λ (x : View). IsNew (opening_of s start budgets) x) (same_Some (keeper_view s (unplugged_hand s)) v has)
+        (new_is_new None 0 [] (unplugged_hand s) None (no_left None)
+        (both_fresh (empty_places (frames_there s)) (fresh_places s.cells (frame_count s - frames_there s)) (nothing_fresh (frames_there s)) (fresh_fresh (frame_count s - frames_there s))) no_scan)
+    new_last (suc (suc (suc i))) v has = absurd (none-some v has)
+
+    new_owners : (k : ℕ) (ns : List ℕ) (i : ℕ) (v : View) → Has (owner_views s k ns ++ scanner_view s ∷ keeper_views s start) i v → IsNew (opening_of s start budgets) v
+    new_owners k [] i v has = new_last i v has
+    new_owners k (n ∷ ns) zero v has = subst (λ (x : View). IsNew (opening_of s start budgets) x) (same_Some (owner_view s k n) v has)
+        (new_is_new (Some k) n [] (empty_places (frame_count s)) None (λ h. refl) (nothing_fresh (frame_count s)) no_scan)
+    new_owners k (n ∷ ns) (suc i) v has = new_owners (k + 1) ns i v has
+
+    new_views : (i : ℕ) (v : View) → Has (opening_views s start budgets) i v → IsNew (opening_of s start budgets) v
+    new_views zero v has = subst (λ (x : View). IsNew (opening_of s start budgets) x) (same_Some (driver_view s) v has)
+        (new_is_new (Some 0) 0 (replicate s.pages true) (empty_places (frame_count s)) None (no_left (Some 0)) (nothing_fresh (frame_count s)) no_scan)
+    new_views (suc i) v has = new_owners 1 budgets i v has
+
+    -- ---- cells and marks
+
+    cells_zero : (ps : List StartPage) (frame : ℕ) → AllByRecursion (IsStartPage s) ps → frame < frame_count s → cells_of_frame (opening_of s start budgets) (opening_words s ps) frame ≡ zeros s.cells
+    cells_zero [] frame each low =
+        ap (λ (l : List ℕ). take s.cells l) (drop-replicate (cell_index s.pages (frame_count s) s.cells frame 0) (table_length s.pages (frame_count s) s.cells) 0)
+        ∙ take-replicate s.cells (table_length s.pages (frame_count s) s.cells - cell_index s.pages (frame_count s) s.cells frame 0) 0
+        (let a = row_within s.cells frame (frame_count s) low in omega arith)
+    cells_zero (p ∷ ps) frame each low =
+        cells_of_frame-before (opening_of s start budgets) (opening_words s ps) (entry_index p.page.0) (mapped_word 0 p.frame.0 p.kind) frame (let a = each.0.page in omega arith)
+        ∙ cells_zero ps frame each.1 low
+
+    clean : (ps : List StartPage) (frame : ℕ) → AllByRecursion (IsStartPage s) ps → frame < frame_count s → dirty_word_of (opening_of s start budgets) (opening_words s ps) frame ≡ 0
+    clean [] frame each low = get_or_same (table_length s.pages (frame_count s) s.cells) (dirty_index s.pages frame) 0
+    clean (p ∷ ps) frame each low =
+        get_or-set_other (opening_words s ps) (entry_index p.page.0) (dirty_index s.pages frame) (mapped_word 0 p.frame.0 p.kind) 0 (λ e. absurd (let a = each.0.page in omega arith))
+        ∙ clean ps frame each.1 low
+
+    -- ---- each page
+
+    module _ (are : AreStartPages s start) (page : ℕ) (lt : page < s.pages) where
+      here : IsUnmapped (entry_word_of (opening_words s start) page) (get_or (start_pages s start) page None) ⊎ IsMapped s (entry_word_of (opening_words s start) page) (get_or (start_pages s start) page None)
+      here = at_start start page are.each lt
+
+      fits : (frame : ℕ) (kind : Kind) → frame < frame_count s → Fits 0 0 1 (unmovable_for kind) 0 frame
+      fits frame kind low = word_fits frame kind (let a = frames_small in omega arith)
+
+      free_word : taken_bit (entry_word_of (opening_words s start) page) ≡ 0
+      free_word = ⊎_elim (λ q. ap (λ x. taken_bit x) q.0) (λ q. ap (λ x. taken_bit x) q.word ∙ taken_bit-packed 0 0 1 (unmovable_for q.kind) 0 q.frame 0 (fits q.frame q.kind q.low)) here
+
+      no_bound : bound_of (entry_word_of (opening_words s start) page) ≡ 0
+      no_bound = ⊎_elim (λ q. ap (λ x. bound_of x) q.0) (λ q. ap (λ x. bound_of x) q.word ∙ bound_of-packed 0 0 1 (unmovable_for q.kind) 0 q.frame 0 (fits q.frame q.kind q.low)) here
+
+      still_word : moving_bit (entry_word_of (opening_words s start) page) ≡ 0
+      still_word = ⊎_elim (λ q. ap (λ x. moving_bit x) q.0) (λ q. ap (λ x. moving_bit x) q.word ∙ moving_bit-packed 0 0 1 (unmovable_for q.kind) 0 q.frame 0 (fits q.frame q.kind q.low)) here
+
+      shows_none : (x : ℕ) (m : Page) → x ≡ 0 → m ≡ None → Shows (opening_of s start budgets) (opening_words s start) x m
+      shows_none x m e n = record {
+        flags = subst (λ (y : Page). Flagged x y) (sym n) (omega arith);
+        cells = λ one. absurd (omega arith);
+      }
+
+      shows_some : (x : ℕ) (m : Page) (frame : ℕ) (kind : Kind) → frame < frame_count s → x ≡ mapped_word 0 frame kind → m ≡ Some (new_page s.cells kind) → Shows (opening_of s start budgets) (opening_words s start) x m
+      shows_some x m frame kind low e n = let r = fits frame kind low in
+          subst (λ (y : Page). Shows (opening_of s start budgets) (opening_words s start) x y) (sym n)
+          (subst (λ (z : ℕ). Shows (opening_of s start budgets) (opening_words s start) z (Some (new_page s.cells kind))) (sym e)
+          (record {
+            flags = (
+              mapped_bit-packed 0 0 1 (unmovable_for kind) 0 frame 0 r,
+              ap (λ (b : ℕ). kind_of (eqb b 0)) (unmovable_bit-packed 0 0 1 (unmovable_for kind) 0 frame 0 r) ∙ kind_back kind,
+              pins_of-packed 0 0 1 (unmovable_for kind) 0 frame 0 r,
+            );
+            cells = λ one. ap (λ (f : ℕ). cells_of_frame (opening_of s start budgets) (opening_words s start) f) (frame_of-packed 0 0 1 (unmovable_for kind) 0 frame 0 r) ∙ cells_zero start frame are.each low;
+          }))
+
+      shows : FreeShows (opening_of s start budgets) (opening_words s start) (entry_word_of (opening_words s start) page) (get_or (start_pages s start) page None)
+      shows = record {
+        still = still_word;
+        shows = ⊎_elim (λ q. shows_none _ _ q.0 q.1) (λ q. shows_some _ _ q.frame q.kind q.low q.word q.page) here;
+      }
+
+      sized : length (page_cells s.cells (get_or (start_pages s start) page None)) ≡ s.cells
+      sized = ⊎_elim
+          (λ q. ap (λ (m : Page). length (page_cells s.cells m)) q.1 ∙ length-replicate s.cells 0)
+          (λ q. ap (λ (m : Page). length (page_cells s.cells m)) q.page ∙ length-replicate s.cells 0)
+          here
+
+    -- ---- the opening
+
+    pub core_opens : AreStartPages s start → sum budgets < 2 ^ 33 → Opens (opening_of s start budgets) (opening_words s start) (opening_views s start budgets)
+    core_opens are small = record {
+      shaped = shaped start;
+      first_is = first_zero start;
+      budget_is = budget;
+      budget_small = omega arith;
+      free = λ page lt. free_word are page lt;
+      bound_is = λ page lt. no_bound are page lt ∙ sym (get_or_same s.pages page 0);
+      bound_low = λ page lt. let a : get_or (replicate s.pages 0) page 0 ≡ 0 = get_or_same s.pages page 0 in subst (λ n. n ≤ 0) (sym a) (omega arith);
+      shows = λ page lt. shows are page lt;
+      sized = λ page lt. sized are page lt;
+      clean = λ frame low. clean start frame are.each low;
+      each_once = λ frame low. let a = in_hands frame in let b = free_total start frame are.each are.pages are.frames in
+          dite (dec_le (frames_there s) frame)
+          (λ le. let c = at_hand_none frame (free_hand s []) (there_high [] frame le) in let d = unplugged_mid frame le low in omega arith)
+          (λ lt. let c = at_hand_fresh frame (free_hand s []) (there_low [] frame (omega arith) tt) in let d = unplugged_low frame (omega arith) in omega arith);
+      no_other = λ frame high. let a = in_hands frame in let b = free_total start frame are.each are.pages are.frames in
+          let e = there_within s w in
+          let c = at_hand_none frame (free_hand s []) (there_high [] frame (omega arith)) in let d = unplugged_past frame high in omega arith;
+      one_mover = one_mover;
+      one_scanner = one_scanner;
+      new = new_views;
+    }

@@ -1,0 +1,5 @@
+use Rattle.core_state.proofs.PageKinds.{steps_keep_pages}
+use Rattle.core_state.proofs.laws.steps_keep_pages.Goals as goal
+
+pub returns : goal.returns
+returns c = steps_keep_pages
