@@ -1,0 +1,10 @@
+pub mod StepLists
+pub mod StepKinds
+pub mod UnderWay
+pub mod Insides
+pub mod Known
+pub mod HeldSteps
+pub mod FitSteps
+pub mod Answering
+pub mod AllowedSteps
+pub mod Ends
