@@ -1,0 +1,11 @@
+//! The report of a run, and its text.
+#![tactic(auto)]
+
+mod report;
+mod text;
+
+pub use report::{FinalPage, FinalPageList, Report};
+pub use text::write_report;
+
+#[cfg(test)]
+mod tests;

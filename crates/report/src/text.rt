@@ -1,0 +1,198 @@
+//! The report's text: lines of words, each word but the first behind a space.
+
+ghost use Rattle.std.specs.Prelude.{◌≡◌, List, [], ◌∷◌, ◌++◌, ℕ, codes, map, OnOk, IfOk};
+ghost use Rattle.std.specs.List.{flat_map};
+ghost use Rattle.std.specs.Fmt.{decimal};
+ghost use Rattle.evac_model.specs.Spelling.{kind_word, call_words};
+ghost use Rattle.report.specs.ReportText.{behind_space, reply_words, entry_text, plugged_text, cell_words, page_text, report_text};
+
+use crate::report::{FinalPage, Report};
+use evac_model::{BlockNo, ByteList, Call, Entry, Kind, OutOfMemory, PageNo, Reply};
+use itoa::Buffer;
+use std::alloc::{AllocError, Global};
+
+/// Adds a space and a word.
+fn put_word(out: &mut Vec<u8>, word: &[u8]) -> Result<(), AllocError>
+    ensures { OnOk result (out.new.items ≡ out.old.items ++ behind_space word.now) }
+{
+    out.push(b' ')?;
+    out.extend_from_slice(word)
+}
+
+/// Adds a space and a number in decimal.
+fn put_number(out: &mut Vec<u8>, n: u64) -> Result<(), AllocError>
+    ensures { OnOk result (out.new.items ≡ out.old.items ++ behind_space (decimal n)) }
+{
+    let mut buffer = Buffer::new();
+    put_word(out, buffer.format(n).as_bytes())
+}
+
+/// Adds numbers, a space before each.
+fn put_numbers(out: &mut Vec<u8>, numbers: &[u64]) -> Result<(), AllocError>
+    ensures { OnOk result (out.new.items ≡ out.old.items ++ flat_map behind_space (map decimal numbers.now)) }
+{
+    for n in numbers {
+        put_number(out, *n)?;
+    }
+    Ok(())
+}
+
+fn put_kind(out: &mut Vec<u8>, kind: Kind) -> Result<(), AllocError>
+    ensures { OnOk result (out.new.items ≡ out.old.items ++ behind_space (kind_word kind)) }
+{
+    match kind {
+        Kind::Movable => put_word(out, b"movable"),
+        Kind::Unmovable => put_word(out, b"unmovable"),
+    }
+}
+
+/// Adds the name of a call and its page.
+fn put_name(out: &mut Vec<u8>, name: &[u8], page: PageNo) -> Result<(), AllocError>
+    ensures { OnOk result (out.new.items ≡ out.old.items ++ flat_map behind_space (name.now ∷ decimal page.0 ∷ [])) }
+{
+    put_word(out, name)?;
+    put_number(out, page.0 as u64)
+}
+
+/// Adds a call as a scenario spells it.
+fn put_call(out: &mut Vec<u8>, page: PageNo, call: &Call) -> Result<(), AllocError>
+    ensures { OnOk result (out.new.items ≡ out.old.items ++ flat_map behind_space (call_words page.0 call.now)) }
+{
+    match call {
+        Call::Alloc { kind } => {
+            put_name(out, b"alloc", page)?;
+            put_kind(out, *kind)
+        }
+        Call::Free => put_name(out, b"free", page),
+        Call::Read { first, count } => {
+            put_name(out, b"read", page)?;
+            put_numbers(out, &[*first as u64, *count as u64])
+        }
+        Call::Write { first, values } => {
+            put_name(out, b"write", page)?;
+            put_number(out, *first as u64)?;
+            put_numbers(out, values.as_slice())
+        }
+        Call::Add { cell, value } => {
+            put_name(out, b"add", page)?;
+            put_numbers(out, &[*cell as u64, *value])
+        }
+        Call::Pin => put_name(out, b"pin", page),
+        Call::Unpin => put_name(out, b"unpin", page),
+    }
+}
+
+fn put_reply(out: &mut Vec<u8>, reply: &Reply) -> Result<(), AllocError>
+    ensures { OnOk result (out.new.items ≡ out.old.items ++ flat_map behind_space (reply_words reply.now)) }
+{
+    match reply {
+        Reply::Done => put_word(out, b"ok"),
+        Reply::Values(values) => put_numbers(out, values.as_slice()),
+        Reply::Old(value) => put_number(out, *value),
+        Reply::Mapped => put_word(out, b"mapped"),
+        Reply::NotMapped => put_word(out, b"notmapped"),
+        Reply::Pinned => put_word(out, b"pinned"),
+        Reply::PinLimit => put_word(out, b"pinlimit"),
+        Reply::NotPinned => put_word(out, b"notpinned"),
+        Reply::NoFrame { at } => {
+            put_word(out, b"noframe")?;
+            put_number(out, *at)
+        }
+    }
+}
+
+/// Adds the line of a call.
+fn put_entry(out: &mut Vec<u8>, e: &Entry) -> Result<(), AllocError>
+    ensures { OnOk result (out.new.items ≡ out.old.items ++ entry_text e.now) }
+{
+    out.extend_from_slice(b"call")?;
+    put_numbers(out, &[e.ticket, e.caller as u64, e.call_no])?;
+    put_call(out, e.page, &e.call)?;
+    put_word(out, b"=")?;
+    put_reply(out, &e.reply)?;
+    Ok(out.push(b'\n')?)
+}
+
+/// Adds the line of the plugged blocks.
+fn put_plugged(out: &mut Vec<u8>, blocks: &[BlockNo]) -> Result<(), AllocError>
+    ensures { OnOk result (out.new.items ≡ out.old.items ++ plugged_text blocks.now) }
+{
+    out.extend_from_slice(b"plugged")?;
+    for b in blocks {
+        put_number(out, b.0 as u64)?;
+    }
+    Ok(out.push(b'\n')?)
+}
+
+/// Adds the number and the value of one cell.
+fn put_cell(out: &mut Vec<u8>, cell: u64, value: u64) -> Result<(), AllocError>
+    ensures { OnOk result (out.new.items ≡ out.old.items ++ behind_space (decimal cell ++ 58 ∷ decimal value)) }
+{
+    put_number(out, cell)?;
+    out.push(b':')?;
+    let mut buffer = Buffer::new();
+    out.extend_from_slice(buffer.format(value).as_bytes())
+}
+
+/// Adds the cells other than 0, by their numbers.
+fn put_cells(out: &mut Vec<u8>, cells: &[u64]) -> Result<(), AllocError>
+    ensures { OnOk result (out.new.items ≡ out.old.items ++ flat_map behind_space (cell_words 0 cells.now)) }
+{
+    let mut cell = 0u64;
+    for value in cells {
+        if *value != 0 {
+            put_cell(out, cell, *value)?;
+        }
+        cell += 1;
+    }
+    Ok(())
+}
+
+/// Adds the line of a mapped page.
+fn put_page(out: &mut Vec<u8>, p: &FinalPage) -> Result<(), AllocError>
+    ensures { OnOk result (out.new.items ≡ out.old.items ++ page_text p.now) }
+{
+    out.extend_from_slice(b"page")?;
+    put_number(out, p.page.0 as u64)?;
+    put_kind(out, p.kind)?;
+    put_number(out, p.pins as u64)?;
+    put_cells(out, p.cells.as_slice())?;
+    Ok(out.push(b'\n')?)
+}
+
+fn put_entries(out: &mut Vec<u8>, entries: &[Entry]) -> Result<(), AllocError>
+    ensures { OnOk result (out.new.items ≡ out.old.items ++ flat_map entry_text entries.now) }
+{
+    for e in entries {
+        put_entry(out, e)?;
+    }
+    Ok(())
+}
+
+fn put_pages(out: &mut Vec<u8>, pages: &[FinalPage]) -> Result<(), AllocError>
+    ensures { OnOk result (out.new.items ≡ out.old.items ++ flat_map page_text pages.now) }
+{
+    for p in pages {
+        put_page(out, p)?;
+    }
+    Ok(())
+}
+
+fn put_report(out: &mut Vec<u8>, report: &Report) -> Result<(), AllocError>
+    ensures { OnOk result (out.new.items ≡ out.old.items ++ report_text report.now) }
+{
+    put_entries(out, report.history.as_slice())?;
+    put_plugged(out, report.plugged.as_slice())?;
+    put_pages(out, report.pages.as_slice())?;
+    out.extend_from_slice(b"end\n")
+}
+
+/// The text of a report: a line for each call in ticket order, the plugged blocks, a line for each
+/// page, and `end`. Each line ends with LF.
+pub fn write_report(alloc: Global, report: &Report) -> Result<ByteList, OutOfMemory>
+    ensures { IfOk result (λ text. text ≡ report_text report.now) }
+{
+    let mut out = Vec::new(alloc);
+    put_report(&mut out, report)?;
+    Ok(ByteList::from_vec(out))
+}
