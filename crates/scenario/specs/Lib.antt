@@ -1,0 +1,10 @@
+pub mod Lines
+pub mod Words
+pub mod Numbers
+pub mod Asking
+pub mod Reading
+pub mod CellLimits
+pub mod Tables
+pub mod Judging
+pub mod Drafts
+pub mod Outcomes

@@ -1,0 +1,10 @@
+//! How many of a thing a scenario may have.
+
+/// The most owners.
+pub const MOST_OWNERS: u64 = 16;
+
+/// The most calls of all owners.
+pub const MOST_CALLS: u64 = 1 << 20;
+
+/// The most named turns, and the most drawn ones.
+pub const MOST_TURNS: u64 = 1 << 24;
