@@ -1,0 +1,89 @@
+-- A run of all turns of a schedule.
+use Rattle.std.proofs.Common.{◌≡◌, ℕ, ◌+◌, ◌*◌, ◌^◌, ◌≤◌, List, ◌++◌, length, refl, ap, sym, ◌∙◌, subst, arith, Option, Some, None}
+use Rattle.std.specs.Prelude.{IfSome}
+use Rattle.std.proofs.Math.Nat.{mul-le-mul}
+use Rattle.evac_model.specs.declared.scenario.Actor.{Actor}
+use Rattle.evac_model.specs.declared.scenario.Drawn.{Drawn}
+use Rattle.evac_model.specs.declared.scenario.Scenario.{Scenario}
+use Rattle.evac_model.specs.declared.scenario.Turn.{Turn}
+use Rattle.evac_model.specs.Scenarios.{IsRunnable}
+use Rattle.evac_model.specs.ScenarioGrammar.{call_count}
+use Rattle.evac_model.specs.Turns.{IsDraw}
+use Rattle.evac_model.proofs.Bounds.{power_to_512_most}
+use Rattle.core_actors.specs.Owners.{OwnerState}
+use Rattle.replay.specs.Machine.{Machine, Run, run_after, after_turns}
+use Rattle.replay.specs.Keeping.{IsKept}
+use Rattle.replay.specs.ReplayInside.{ReplayState, replay_of}
+use Rattle.replay.specs.Runs.{opening, machine_at_start, AllEnded, IsScheduledRun}
+use Rattle.replay.specs.Schedule.{actors, named_turns, drawn_turns, rounds, schedule, draw_count, round_bound}
+use Rattle.replay.proofs.Ends.{runs_end_if_kept}
+use Rattle.replay.proofs.Kept.{starts_are_kept, turns_are_kept}
+use Rattle.replay.proofs.Left.{all_turns_keep}
+use Rattle.replay.proofs.Schedules.{after_both}
+use Rattle.replay.proofs.Starts.{length-owners_from}
+
+-- ---- numbers of a replay
+
+pub owner_number : (s : Scenario) (r : Run) (n : ℕ) → r ≡ (replay_of s).run → n ≡ length r.machine.owners → n ≡ length s.owners
+owner_number s r n is count = count ∙ ap (λ (x : Run). length x.machine.owners) is ∙ length-owners_from 1 s.owners
+
+pub few_draws : (d : Option Drawn) → IfSome d IsDraw → draw_count d ≤ 2 ^ 24
+few_draws None is = omega arith
+few_draws (Some d) is = is.most
+
+pub few_rounds : (s : Scenario) → IsRunnable s → round_bound s.geometry.cells (call_count s.owners) ≤ 1 + 1048576 * 518
+few_rounds s runnable =
+    let cells = power_to_512_most s.geometry.cells runnable.limits.cells in
+    let calls : call_count s.owners ≤ 1048576 = runnable.count in
+    let more : s.geometry.cells + 6 ≤ 518 = omega arith in
+    let most = mul-le-mul calls more in omega arith
+
+pub few_turns : (s : Scenario) (n most : ℕ) → IsRunnable s → n ≡ length s.owners → most ≡ round_bound s.geometry.cells (call_count s.owners) → (n + 2) * most ≤ 18 * (1 + 1048576 * 518)
+few_turns s n most runnable count is =
+    let owners = runnable.owners in
+    let few : n + 2 ≤ 18 = omega arith in
+    let bounded : most ≤ 1 + 1048576 * 518 = subst (λ (k : ℕ). k ≤ 1 + 1048576 * 518) (sym is) (few_rounds s runnable) in
+    mul-le-mul few bounded
+
+-- ---- all turns were made
+
+-- the run of a replay after all its turns, with so many rounds
+abbrev pub run_of_schedule : Scenario → ℕ → Run
+run_of_schedule s most = run_after (replay_of s).run (schedule s most)
+
+pub scheduled : (s : Scenario) (start named drawn last : Run) (turns : List Turn) (draws : Option Drawn) (n most : ℕ) → start ≡ (replay_of s).run → turns ≡ s.named → draws ≡ s.drawn → n ≡ length s.owners
+    → named ≡ run_after start (named_turns turns) → drawn ≡ run_after named (drawn_turns (actors n) draws) → last ≡ run_after drawn (rounds (actors n) most) → last ≡ run_of_schedule s most
+scheduled s start named drawn last turns draws n most is ts ds ns first second third =
+    third
+    ∙ ap (λ (r : Run). run_after r (rounds (actors n) most)) (second ∙ ap (λ (r : Run). run_after r (drawn_turns (actors n) draws)) (first ∙ ap (λ (r : Run). run_after r (named_turns turns)) is))
+    ∙ ap (λ (r : Run). run_after r (rounds (actors n) most)) (after_both (replay_of s).run (named_turns turns) (drawn_turns (actors n) draws))
+    ∙ after_both (replay_of s).run (named_turns turns ++ drawn_turns (actors n) draws) (rounds (actors n) most)
+    ∙ ap (λ (l : List Turn). run_after (replay_of s).run (named_turns l ++ drawn_turns (actors n) draws ++ rounds (actors n) most)) ts
+    ∙ ap (λ (d : Option Drawn). run_after (replay_of s).run (named_turns s.named ++ drawn_turns (actors n) d ++ rounds (actors n) most)) ds
+    ∙ ap (λ (k : ℕ). run_after (replay_of s).run (named_turns s.named ++ drawn_turns (actors k) s.drawn ++ rounds (actors k) most)) ns
+
+-- what such a run leaves
+pub record IsDone (s : Scenario) (r : Run) : Type 0 where
+  pub opened : r.opening ≡ opening s
+  pub run : IsScheduledRun s r.machine
+  pub kept : IsKept s r.machine
+
+pub done : (s : Scenario) (r : Run) (most : ℕ) → IsRunnable s → most ≡ round_bound s.geometry.cells (call_count s.owners) → r ≡ run_of_schedule s most → IsDone s r
+done s r most runnable bound is = record {
+  opened = ap (λ (x : Run). x.opening) is;
+  run = record {
+    made = ap (λ (x : Run). x.machine) is ∙ ap (λ (k : ℕ). after_turns (opening s) (machine_at_start s) (schedule s k)) bound;
+    ended =
+        subst (λ (x : Run). AllEnded x.machine.owners) (sym is)
+        (subst (λ (k : ℕ). AllEnded (run_of_schedule s k).machine.owners) (sym bound) (runs_end_if_kept starts_are_kept turns_are_kept s runnable));
+  };
+  kept = subst (λ (x : Run). IsKept s x.machine) (sym is) (all_turns_keep s (machine_at_start s) (schedule s most) runnable (starts_are_kept s runnable));
+}
+
+-- the turns of a replay, made one part after another
+pub finished : (s : Scenario) (start : ReplayState) (named drawn last : Run) (turns : List Turn) (n most : ℕ) → IsRunnable s → start ≡ replay_of s → turns ≡ start.named → n ≡ length start.run.machine.owners
+    → most ≡ round_bound start.geometry.cells start.calls → named ≡ run_after start.run (named_turns turns) → drawn ≡ run_after named (drawn_turns (actors n) start.drawn) → last ≡ run_after drawn (rounds (actors n) most) → IsDone s last
+finished s start named drawn last turns n most runnable is ts count bound first second third =
+    done s last most runnable (bound ∙ ap (λ (r : ReplayState). round_bound r.geometry.cells r.calls) is)
+    (scheduled s start.run named drawn last turns start.drawn n most (ap (λ (r : ReplayState). r.run) is) (ts ∙ ap (λ (r : ReplayState). r.named) is) (ap (λ (r : ReplayState). r.drawn) is)
+    (owner_number s start.run n (ap (λ (r : ReplayState). r.run) is) count) first second third)

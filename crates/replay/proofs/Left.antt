@@ -1,0 +1,93 @@
+-- What a machine leaves whose owners have all ended.
+use Rattle.std.proofs.Common.{◌≡◌, ◌≢◌, ℕ, zero, suc, ◌+◌, ◌*◌, ◌^◌, ◌<◌, ◌≤◌, ◌⊎◌, inl, inr, cond, eqb, Bool, true, false, List, [], ◌∷◌, length, refl, ap, sym, ◌∙◌, subst, arith, Option, Some, None, IsSome}
+use Rattle.std.specs.List.{slice_get, count_by}
+use Rattle.std.proofs.lemmas.Bool.{eqb-true}
+use mathlib.Core.Logic.{dite}
+use native.Mathlib.Decide.{dec_le}
+use Rattle.evac_model.specs.declared.entry.Entry.{Entry}
+use Rattle.evac_model.specs.declared.scenario.Actor.{Actor}
+use Rattle.evac_model.specs.declared.scenario.Scenario.{Scenario}
+use Rattle.evac_model.specs.Scenarios.{IsRunnable}
+use Rattle.evac_model.specs.Scripts.{script_of}
+use Rattle.evac_model.proofs.Bounds.{power_to_512_least}
+use Rattle.evac_words.specs.Word.{mapped_bit, frame_of}
+use Rattle.core_state.specs.declared.held.Held.{Held}
+use Rattle.core_state.specs.declared.view.View.{View}
+use Rattle.core_state.specs.Words.{next_ticket_of, entry_word_of}
+use Rattle.core_state.specs.Views.{Has, maps_to}
+use Rattle.core_state.specs.Parts.{uses, uses_of, drawn_as}
+use Rattle.core_state.specs.Pages.{entry_with}
+use Rattle.core_state.specs.Frames.{all_entry_words, times_mapped}
+use Rattle.core_state.specs.Histories.{AllLetGo}
+use Rattle.core_state.proofs.Cells.{at_entry}
+use Rattle.core_state.proofs.Frames.{maps_to-one}
+use Rattle.core_state.proofs.Lists.{sum_by_member, member_le_sum_by}
+use Rattle.core_actors.proofs.Ends.{held_at_end}
+use Rattle.replay.specs.Machine.{Machine, Run, run_after, after_turn, after_turns}
+use Rattle.replay.specs.Keeping.{IsKept}
+use Rattle.replay.specs.Runs.{opening, AllEnded}
+use Rattle.replay.specs.Shown.{MapsInside}
+use Rattle.replay.proofs.Kept.{turns_are_kept}
+use Rattle.replay.proofs.Members.{there, member_found}
+
+-- ---- turns keep the machine
+
+pub all_turns_keep : (s : Scenario) (m : Machine) (turns : List Actor) → IsRunnable s → IsKept s m → IsKept s (after_turns (opening s) m turns)
+all_turns_keep s m [] runnable kept = kept
+all_turns_keep s m (x ∷ xs) runnable kept = all_turns_keep s (after_turn (opening s) m x) xs runnable (turns_are_kept s m x runnable kept)
+
+-- ---- no page is held
+
+pub let_go : (s : Scenario) (m : Machine) → IsKept s m → AllEnded m.owners → AllLetGo m.snapshot.views
+let_go s m kept ended zero v at = (kept.others zero v at (inl refl)).1
+let_go s m kept ended (suc i) v at = dite (dec_le (suc i) (length s.owners))
+    (λ le.
+    let a = there m.owners i (let n = kept.owners in omega arith) in
+    held_at_end s.geometry (opening s) v (script_of s.owners (suc i)) a.0 (kept.fits i a.0 v a.1 at).1 (ended i a.0 a.1))
+    (λ gt. (kept.others (suc i) v at (inr (omega arith))).1)
+
+-- ---- each ticket has its entry
+
+one_is_so : (b : Bool) → 0 < cond {A = ℕ} b 1 0 → b ≡ true
+one_is_so true lt = refl
+one_is_so false lt = absurd (omega arith)
+
+has_ticket : (t : ℕ) (es : List Entry) → 0 < count_by (λ e. eqb e.ticket t) es → (p : ℕ) × (e : Entry) × (slice_get es p ≡ Some e) × (e.ticket ≡ t)
+has_ticket t es some =
+    let r = sum_by_member (λ (e : Entry). cond {A = ℕ} (eqb e.ticket t) 1 0) es some in
+    (r.0, r.1, r.2, eqb-true r.1.ticket t (one_is_so (eqb r.1.ticket t) r.3))
+
+undrawn : (t : ℕ) (h : Option Held) → h ≡ None → drawn_as t h ≡ 0
+undrawn t h e = ap (λ (x : Option Held). drawn_as t x) e
+
+some_there : (m : Option Entry) (e : Entry) → m ≡ Some e → IsSome m
+some_there m e is = subst (λ (x : Option Entry). IsSome x) (sym is) refl
+
+pub has_entry : (views : List View) (t : ℕ) → AllLetGo views → uses t views ≡ 1 → IsSome (entry_with t views)
+has_entry views t go once =
+    let r = sum_by_member (λ (v : View). uses_of t v) views (omega arith) in
+    let none = undrawn t r.1.held (go r.0 r.1 r.2) in
+    let more : 0 < uses_of t r.1 = r.3 in
+    let e = has_ticket t r.1.entries (omega arith) in
+    some_there (entry_with t views) e.1 (member_found t views r.0 r.1 e.0 e.1 r.2 e.2 e.3 (omega arith))
+
+pub each_ticket : (s : Scenario) (m : Machine) → IsKept s m → AllEnded m.owners → (t : ℕ) → t < next_ticket_of m.snapshot.words → IsSome (entry_with t m.snapshot.views)
+each_ticket s m kept ended t lt = has_entry m.snapshot.views t (let_go s m kept ended) (kept.sound.tickets.each_once t (omega arith) lt)
+
+-- ---- pages can be read
+
+pub maps_inside : (s : Scenario) (m : Machine) → IsRunnable s → IsKept s m → MapsInside (opening s) m.snapshot.words
+maps_inside s m runnable kept = record {
+  long = kept.sound.shaped.long;
+  small = record { pages = runnable.limits.pages.1; frames = runnable.limits.frames; cells = runnable.limits.total_cells };
+  cells = power_to_512_least s.geometry.cells runnable.limits.cells;
+  frames = λ page lt mapped.
+      let w = entry_word_of m.snapshot.words page in
+      dite (dec_le (opening s).frames (frame_of w))
+      (λ le.
+      let none = kept.sound.frames.no_other (frame_of w) le in
+      let one = maps_to-one (frame_of w) w mapped refl in
+      let some = member_le_sum_by (λ x. maps_to (frame_of w) x) (all_entry_words (opening s) m.snapshot.words) page w (at_entry (opening s) m.snapshot.words page kept.sound.shaped lt) in
+      absurd (omega arith))
+      (λ gt. omega arith);
+}

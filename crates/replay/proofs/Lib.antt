@@ -1,0 +1,17 @@
+pub mod Members
+pub mod Reported
+pub mod Lengths
+pub mod Turns
+pub mod StepsLeft
+pub mod Rounds
+pub mod Storable
+pub mod InOrder
+pub mod Starts
+pub mod Kept
+pub mod Ends
+pub mod Schedules
+pub mod Places
+pub mod Playing
+pub mod Left
+pub mod Done
+pub mod SmallRuns

@@ -1,0 +1,5 @@
+use Rattle.replay.proofs.Kept.{turns_are_kept}
+use Rattle.replay.proofs.laws.turns_are_kept.Goals as goal
+
+pub returns : goal.returns
+returns c = turns_are_kept

@@ -1,0 +1,42 @@
+-- What holds of the machine between any two turns.
+use Rattle.std.specs.Prelude.{◌≡◌, ◌⊎◌, ℕ, ◌+◌, ◌<◌, ⊤, suc, List, [], ◌∷◌, length, slice_get, Some, None}
+use Rattle.std.specs.List.{AllByRecursion}
+use Rattle.evac_model.specs.declared.scenario.Scenario.{Scenario}
+use Rattle.evac_model.specs.declared.names.PageNo.{PageNo}
+use Rattle.evac_model.specs.declared.call.Call.{Call}
+use Rattle.evac_model.specs.declared.entry.Entry.{Entry}
+use Rattle.evac_model.specs.ScenarioLines.{HasNumbers}
+use Rattle.evac_model.specs.Scripts.{script_of}
+use Rattle.core_state.specs.declared.held.Held.{Held}
+use Rattle.core_state.specs.declared.view.View.{View}
+use Rattle.core_state.specs.Sound.{Sound}
+use Rattle.core_state.specs.Views.{Has}
+use Rattle.core_actors.specs.Owners.{OwnerState}
+use Rattle.core_actors.specs.Fits.{Fits}
+use Rattle.replay.specs.Machine.{Machine}
+use Rattle.replay.specs.Runs.{opening}
+
+-- the tickets of the entries rise
+abbrev pub AreRising : List Entry → Type 0
+AreRising [] = ⊤
+AreRising (e ∷ es) = AllByRecursion (λ x. e.ticket < x.ticket) es × AreRising es
+
+-- The tickets of the view's entries rise and are below `seen`; a ticket drawn is above them.
+pub record IsInOrder (v : View) : Type 0 where
+  pub rising : AreRising v.entries
+  pub seen : AllByRecursion (λ e. e.ticket < v.seen) v.entries
+  pub drawn : (h : Held) (t : ℕ) → v.held ≡ Some h → h.ticket ≡ Some t → (t < v.seen) × AllByRecursion (λ e. e.ticket < t) v.entries
+
+-- each call's numbers have 64 bits
+abbrev pub HaveNumbers : List (PageNo × Call) → Type 0
+HaveNumbers calls = AllByRecursion (λ c. HasNumbers c.1) calls
+
+-- The snapshot is sound, each owner's seat is as its script has it, and the other seats have done
+-- nothing.
+pub record IsKept (s : Scenario) (m : Machine) : Type 0 where
+  pub sound : Sound (opening s) m.snapshot.words m.snapshot.views
+  pub owners : length m.owners ≡ length s.owners
+  pub seats : length m.snapshot.views ≡ length s.owners + 4
+  pub fits : (i : ℕ) (a : OwnerState) (v : View) → slice_get m.owners i ≡ Some a → Has m.snapshot.views (suc i) v → (a.owner ≡ suc i) × Fits s.geometry (opening s) (script_of s.owners (suc i)) v a × HaveNumbers a.left
+  pub in_order : (i : ℕ) (v : View) → Has m.snapshot.views i v → IsInOrder v
+  pub others : (i : ℕ) (v : View) → Has m.snapshot.views i v → (i ≡ 0) ⊎ (length s.owners < i) → (v.entries ≡ []) × (v.held ≡ None)

@@ -1,0 +1,10 @@
+pub mod Machine
+pub mod Schedule
+pub mod Runs
+pub mod Keeping
+pub mod Quiet
+pub mod Seats
+pub mod RunningInside
+pub mod Entries
+pub mod Shown
+pub mod ReplayInside

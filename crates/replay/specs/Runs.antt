@@ -1,0 +1,98 @@
+-- The scheduled run of a scenario, and what a report of it says.
+use Rattle.std.specs.Prelude.{◌≡◌, ℕ, ◌+◌, ◌<◌, zero, suc, ◌==◌, if◌then◌else◌, true, List, [], ◌∷◌, ◌++◌, length, map, slice_get, None, Some}
+use Rattle.std.specs.List.Sorted.{IsStrictlyIncreasing}
+use Rattle.evac_model.specs.declared.names.BlockNo.{BlockNo}
+use Rattle.evac_model.specs.declared.names.PageNo.{PageNo}
+use Rattle.evac_model.specs.declared.call.Call.{Call}
+use Rattle.evac_model.specs.declared.scenario.Scenario.{Scenario}
+use Rattle.evac_model.specs.ScenarioGrammar.{call_count}
+use Rattle.evac_model.specs.Page.{Page}
+use Rattle.evac_model.specs.State.{PlainState, start_state}
+use Rattle.evac_model.specs.History.{after_entries, IsLegal}
+use Rattle.evac_model.specs.Scripts.{IsOfScripts}
+use Rattle.evac_words.specs.Word.{mapped_bit, pins_of, frame_of}
+use Rattle.core_state.specs.declared.opening.Opening.{Opening}
+use Rattle.core_state.specs.Words.{entry_word_of, cells_of_frame, kind_in}
+use Rattle.core_state.specs.CoreOpens.{opening_of, opening_words, opening_views}
+use Rattle.core_state.specs.Histories.{IsHistoryOf}
+use Rattle.core_actors.specs.Owners.{OwnerState, owner_at_start, owner_ended}
+use Rattle.report.specs.declared.report.FinalPage.{FinalPage}
+use Rattle.report.specs.declared.report.Report.{Report}
+use Rattle.report.specs.FinalPages.{final_page, state_of}
+use Rattle.replay.specs.Machine.{Machine, after_turns}
+use Rattle.replay.specs.Schedule.{schedule, round_bound}
+
+-- ---- the run
+
+-- the tickets of each owner: one for each call
+abbrev pub budgets_of : List (List (PageNo × Call)) → List ℕ
+budgets_of scripts = map length scripts
+
+-- the owners from a number on, at the start of their scripts
+abbrev pub owners_from : ℕ → List (List (PageNo × Call)) → List OwnerState
+owners_from k [] = []
+owners_from k (script ∷ scripts) = owner_at_start k script ∷ owners_from (k + 1) scripts
+
+abbrev pub opening : Scenario → Opening
+opening s = opening_of s.geometry s.start (budgets_of s.owners)
+
+abbrev pub machine_at_start : Scenario → Machine
+machine_at_start s = record {
+  snapshot = record { words = opening_words s.geometry s.start; views = opening_views s.geometry s.start (budgets_of s.owners) };
+  owners = owners_from 1 s.owners;
+}
+
+abbrev pub AllEnded : List OwnerState → Type 0
+AllEnded owners = (i : ℕ) (a : OwnerState) → slice_get owners i ≡ Some a → owner_ended a ≡ true
+
+-- The machine after the run: the turns of the schedule were made, with as many rounds as the bound has,
+-- and all owners have ended. From the moment on when they have, a turn changes nothing.
+pub record IsScheduledRun (s : Scenario) (m : Machine) : Type 0 where
+  pub made : m ≡ after_turns (opening s) (machine_at_start s) (schedule s (round_bound s.geometry.cells (call_count s.owners)))
+  pub ended : AllEnded m.owners
+
+-- ---- its report
+
+-- a page as the words show it
+abbrev pub shown_page : Opening → List ℕ → ℕ → Page
+shown_page o words page =
+    if mapped_bit (entry_word_of words page) == 1
+    then Some (record { cells = cells_of_frame o words (frame_of (entry_word_of words page)); kind = kind_in (entry_word_of words page); pins = pins_of (entry_word_of words page) })
+    else None
+
+-- the mapped pages with numbers below n, rising, as the words show them
+abbrev pub shown_below : Opening → List ℕ → ℕ → List FinalPage
+shown_below o words zero = []
+shown_below o words (suc n) = shown_below o words n ++ final_page n (shown_page o words n)
+
+-- the first n blocks, rising
+abbrev pub first_blocks : ℕ → List BlockNo
+first_blocks zero = []
+first_blocks (suc n) = first_blocks n ++ (record { 0 = n }) ∷ []
+
+-- what the machine leaves: the entries in ticket order, the plugged blocks, and the pages
+pub record IsReportAfter (s : Scenario) (m : Machine) (r : Report) : Type 0 where
+  pub history : IsHistoryOf (opening s) m.snapshot.words m.snapshot.views r.history
+  pub pages : r.pages ≡ shown_below (opening s) m.snapshot.words s.geometry.pages
+  pub plugged : r.plugged ≡ first_blocks s.geometry.plugged
+
+-- the report is that of the scheduled run
+pub record IsReportOfRun (s : Scenario) (r : Report) : Type 0 where
+  pub machine : Machine
+  pub run : IsScheduledRun s machine
+  pub report : IsReportAfter s machine r
+
+-- ---- what follows of the report
+
+-- the plain state in which a scenario starts
+abbrev pub plain_start : Scenario → PlainState
+plain_start s = start_state s.geometry.cells s.start
+
+-- The calls reported, in ticket order, are one legal history of pages that never move, each script
+-- call once, in its caller's order, and the pages reported are the state after it.
+pub record IsReportOf (s : Scenario) (r : Report) : Type 0 where
+  pub legal : IsLegal s.geometry.cells (plain_start s) r.history
+  pub scripts : IsOfScripts s.owners r.history
+  pub pages : state_of r.pages ≡ after_entries s.geometry.cells (plain_start s) r.history
+  pub rising : IsStrictlyIncreasing (map (λ p. p.page.0) r.pages)
+  pub plugged : r.plugged ≡ first_blocks s.geometry.plugged

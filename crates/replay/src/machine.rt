@@ -1,0 +1,72 @@
+//! The core and the owners, and their turns.
+
+use crate::owner_seat::OwnerSeat;
+use core_state::Core;
+use evac_model::{Actor, Listed};
+use std::marker::Model;
+
+/// The core, and each owner on its seat, that of owner 1 first. Contracts see what the run began with
+/// and the machine as it stands.
+#[derive(Drop)]
+pub(crate) struct Running {
+    pub(crate) core: Core,
+    pub(crate) owners: Listed<OwnerSeat>,
+}
+
+impl Model for Running {
+    ghost use Rattle.replay.specs.Machine.{Run};
+    ghost use Rattle.replay.specs.RunningInside.{run_of, IsRunning};
+
+    ghost Value = { Run };
+
+    ghost view = { run_of };
+
+    ghost invariant = { IsRunning };
+}
+
+impl Running {
+    ghost use Rattle.std.specs.Prelude.{◌≡◌, ◌∷◌, [], true, length};
+    ghost use Rattle.replay.specs.Machine.{run_after};
+    ghost use Rattle.replay.specs.Runs.{AllEnded};
+
+    /// How many owners there are.
+    pub fn owner_count(&self) -> u32
+        ensures { result ≡ length self.now.machine.owners }
+    {
+        self.owners.len() as u32
+    }
+
+    /// A turn of an owner.
+    fn owner_turn(&mut self, owner: u32)
+        ensures { self.new ≡ run_after self.old (Actor.Owner owner ∷ []) }
+    {
+        let place = owner as usize;
+        if place == 0 || place > self.owners.len() {
+            return;
+        }
+        let seat = self.owners.item_mut(place - 1);
+        seat.turn(&mut self.core, owner);
+    }
+
+    /// A turn of an actor.
+    pub fn turn(&mut self, actor: Actor)
+        ensures { self.new ≡ run_after self.old (actor ∷ []) }
+    {
+        match actor {
+            Actor::Owner(owner) => self.owner_turn(owner),
+            Actor::Host | Actor::Scanner => {}
+        }
+    }
+
+    /// Whether each owner was found to have ended.
+    pub fn have_all_ended(&self) -> bool
+        ensures { result ≡ true → AllEnded self.now.machine.owners }
+    {
+        for seat in self.owners.as_slice() {
+            if !seat.has_ended() {
+                return false;
+            }
+        }
+        true
+    }
+}

@@ -1,0 +1,191 @@
+//! The replay of a scenario.
+
+ghost use Rattle.std.specs.Prelude.{◌≡◌, ◌≤◌, ◌^◌, length, IfOk};
+ghost use Rattle.std.specs.List.{AllByRecursion};
+ghost use Rattle.evac_model.specs.Scenarios.{IsRunnable, IsOwnerCall};
+ghost use Rattle.evac_model.specs.ScenarioGrammar.{call_count};
+ghost use Rattle.evac_model.specs.Turns.{turn_count};
+ghost use Rattle.evac_model.specs.declared.scenario.Scenario.{Scenario};
+ghost use Rattle.replay.specs.Keeping.{IsKept};
+ghost use Rattle.replay.specs.Runs.{budgets_of, owners_from, opening, AllEnded, IsReportAfter};
+
+use crate::history::history;
+use crate::machine::Running;
+use crate::owner_seat::OwnerSeat;
+use crate::pages::{final_pages, plugged_blocks};
+use crate::schedule;
+use core_actors::Owner;
+use core_state::Core;
+use evac_model::{CallList, Drawn, Geometry, Listed, OutOfMemory, Scenario, Turn, TurnList};
+use report::Report;
+use std::alloc::{AllocError, Global};
+use std::marker::Model;
+
+/// The number of calls of each script.
+fn budgets(alloc: Global, scripts: &[CallList]) -> Result<Vec<u64>, AllocError>
+    ensures { IfOk result (λ v. v.items ≡ budgets_of scripts.now) }
+{
+    let mut lengths = Vec::with_capacity(alloc, scripts.len())?;
+    for script in scripts {
+        lengths.push(script.len() as u64)?;
+    }
+    Ok(lengths)
+}
+
+/// The number of all calls.
+fn calls_in(scripts: &[CallList]) -> u64
+    requires few { call_count scripts.now ≤ 2 ^ 20 }
+    ensures { result ≡ call_count scripts.now }
+{
+    let mut calls = 0;
+    for script in scripts {
+        calls += script.len() as u64;
+    }
+    calls
+}
+
+/// A copy of a script.
+fn copied(alloc: Global, script: &CallList) -> Result<CallList, AllocError>
+    ensures { IfOk result (λ copy. copy ≡ script.now) }
+{
+    Ok(Listed::from_vec(Vec::from_slice(alloc, script.as_slice())?))
+}
+
+/// The owners of the scripts, that of owner 1 first.
+fn owners(alloc: Global, g: &Geometry, scripts: &[CallList]) -> Result<Vec<OwnerSeat>, AllocError>
+    requires calls { AllByRecursion (λ script. AllByRecursion (IsOwnerCall g.now) script) scripts.now }
+    requires few { length scripts.now ≤ 16 }
+    ensures { IfOk result (λ v. v.items ≡ owners_from 1 scripts.now) }
+{
+    let mut seats = Vec::with_capacity(alloc, scripts.len())?;
+    let mut number = 0;
+    for script in scripts {
+        number += 1;
+        seats.push(OwnerSeat::new(Owner::new(*g, number, copied(alloc, script)?)))?;
+    }
+    Ok(seats)
+}
+
+/// The number of named turns.
+fn count_turns(turns: &[Turn]) -> u64
+    requires few { turn_count turns.now ≤ 2 ^ 24 }
+    ensures { result ≡ turn_count turns.now }
+{
+    let mut count = 0;
+    for turn in turns {
+        count += u64::from(turn.count);
+    }
+    count
+}
+
+/// What a machine leaves whose owners have all ended.
+fn report_of(alloc: Global, geometry: &Geometry, run: &Running) -> Result<Report, OutOfMemory>
+    requires ended { AllEnded run.now.machine.owners }
+    ensures { IfOk result (λ report. (s : Scenario) → run.now.opening ≡ opening s → geometry.now ≡ s.geometry → IsKept s run.now.machine → IsReportAfter s run.now.machine report) }
+{
+    let snapshot = run.core.snapshot();
+    let words = snapshot.words.as_slice();
+    let opening = run.core.opening();
+    let history = history(alloc, snapshot.views.as_slice(), words[0] as usize)?;
+    let pages = final_pages(alloc, opening, words)?;
+    let plugged = plugged_blocks(alloc, geometry.plugged())?;
+    Ok(Report {
+        history: Listed::from_vec(history),
+        plugged: Listed::from_vec(plugged),
+        pages: Listed::from_vec(pages),
+    })
+}
+
+/// The replay of one scenario: its turns, and the machine at the start. Each turn makes one step of one
+/// actor: the next word step of an owner's call. The turns are the named ones, those that the generator
+/// draws, and then rounds over all actors until all have ended.
+#[derive(Drop)]
+pub struct Replay {
+    geometry: Geometry,
+    named: TurnList,
+    drawn: Option<Drawn>,
+    calls: u64,
+    running: Running,
+}
+
+impl Model for Replay {
+    ghost use Rattle.replay.specs.ReplayInside.{ReplayState, state_of, IsReplay};
+
+    ghost Value = { ReplayState };
+
+    ghost view = { state_of };
+
+    ghost invariant = { IsReplay };
+}
+
+impl Replay {
+    ghost use Rattle.std.specs.Prelude.{◌≡◌, ℕ, length, IfOk};
+    ghost use Rattle.evac_model.specs.declared.scenario.Scenario.{Scenario};
+    ghost use Rattle.evac_model.specs.Scenarios.{IsRunnable};
+    ghost use Rattle.replay.specs.Machine.{after_turns};
+    ghost use Rattle.replay.specs.ReplayInside.{replay_of};
+    ghost use Rattle.replay.specs.Runs.{opening, machine_at_start, AllEnded, IsReportOfRun, IsReportOf};
+    ghost use Rattle.replay.specs.Schedule.{schedule, round_bound, turn_bound};
+
+    /// The machine of a scenario at its start, and its turns. It takes the memory of the words, of the
+    /// views and of a copy of the scripts.
+    pub fn open(alloc: Global, s: &Scenario) -> Result<Replay, OutOfMemory>
+        requires { IsRunnable s.now }
+        ensures { IfOk result (λ r. r ≡ replay_of s.now) }
+    {
+        let budgets = budgets(alloc, s.owners.as_slice())?;
+        let core = Core::open(alloc, s.geometry, s.start.as_slice(), budgets.as_slice())?;
+        let owners = Listed::from_vec(owners(alloc, &s.geometry, s.owners.as_slice())?);
+        Ok(Replay {
+            geometry: s.geometry,
+            named: Listed::from_vec(Vec::from_slice(alloc, s.named.as_slice())?),
+            drawn: s.drawn,
+            calls: calls_in(s.owners.as_slice()),
+            running: Running { core, owners },
+        })
+    }
+
+    /// The most rounds that a run needs.
+    fn round_bound(&self) -> u64
+        ensures { result ≡ round_bound self.now.geometry.cells self.now.calls }
+    {
+        1 + self.calls * (u64::from(self.geometry.cells()) + 6)
+    }
+
+    /// The number of turns after which every actor has ended: the named and the drawn ones, and so many
+    /// rounds over all actors as the calls could have steps.
+    pub fn bound(&self) -> u64
+        ensures bound { (s : Scenario) → self.now ≡ replay_of s → result ≡ turn_bound s }
+        ensures ended { (s : Scenario) → IsRunnable s → self.now ≡ replay_of s → (length (schedule s (round_bound s.geometry.cells self.now.calls)) ≡ result)
+            × AllEnded (after_turns (opening s) (machine_at_start s) (schedule s (round_bound s.geometry.cells self.now.calls))).owners }
+    {
+        let drawn = match &self.drawn {
+            Some(d) => u64::from(d.count),
+            None => 0,
+        };
+        let actors = u64::from(self.running.owner_count()) + 2;
+        count_turns(self.named.as_slice()) + drawn + actors * self.round_bound()
+    }
+
+    /// Makes the turns of the schedule, and reports what they leave. Each answer of a call is given by
+    /// its steps; want of memory comes only where the report takes some.
+    pub fn run(self, alloc: Global) -> Result<Report, OutOfMemory>
+        ensures run { IfOk result (λ report. (s : Scenario) → IsRunnable s → self ≡ replay_of s → IsReportOfRun s report) }
+        ensures theorem { IfOk result (λ report. (s : Scenario) → IsRunnable s → self ≡ replay_of s → IsReportOf s report) }
+    {
+        let most = self.round_bound();
+        let Replay {
+            geometry,
+            named,
+            drawn,
+            calls: _,
+            running,
+        } = self;
+        let mut run = running;
+        let owners = run.owner_count();
+        schedule::named(&mut run, named.as_slice());
+        schedule::drawn(&mut run, owners, &drawn);
+        schedule::rounds(&mut run, owners, most);
+        report_of(alloc, &geometry, &run)
+    }
+}
