@@ -1,0 +1,15 @@
+//! The top calls: a command's words and its input, and what is written. `replay` reads a scenario,
+//! replays it, and writes its report.
+#![tactic(auto)]
+
+mod commands;
+mod finish;
+mod input;
+mod stop;
+
+pub use commands::replay_main;
+pub use finish::Finish;
+pub use report::{FinalPage, FinalPageList, Report};
+
+#[cfg(test)]
+mod tests;

@@ -1,0 +1,316 @@
+//! What the top call writes, over memory.
+
+ghost use Rattle.std.specs.Prelude.{◌≡◌, None};
+
+use crate::replay_main;
+use evac_io::{ByteList, Failed, MemSink, MemSource, NumberList, Source};
+use evac_model::{Entry, FrameNo, Geometry, Kind, PageNo, Plain, StartPage};
+use std::alloc::Global;
+use std::process::Abort;
+use std::test::Fail;
+
+/// Two boot blocks and four managed ones of four frames, two cells in a page, eight pages.
+const SMALL: &[u8] = b"machine 2 4 2 4 4 8\n";
+
+/// A list of bytes.
+fn bytes_of(alloc: Global, text: &[u8]) -> Result<ByteList, Fail> {
+    Ok(ByteList::from_vec(Vec::from_slice(alloc, text)?))
+}
+
+/// A list of numbers.
+fn numbers_of(alloc: Global, numbers: &[u64]) -> Result<NumberList, Fail> {
+    Ok(NumberList::from_vec(Vec::from_slice(alloc, numbers)?))
+}
+
+/// `replay` of an input writes this text and ends with this status.
+fn replays(
+    rt: &impl Abort,
+    alloc: Global,
+    input: &[u8],
+    status: u8,
+    text: &[u8],
+) -> Result<(), Fail> {
+    let mut source = MemSource::new(bytes_of(alloc, input)?, numbers_of(alloc, &[])?);
+    let mut sink = MemSink::with_room(alloc, 4096).ok().ok_or("room")?;
+    let finish = replay_main(alloc, &["replay"], &mut source, &mut sink);
+    assert_eq!(rt; sink.bytes(), text);
+    assert_eq!(rt; finish.status, status);
+    assert_eq!(rt; finish.report.is_some(), status == 0);
+    Ok(())
+}
+
+/// The same of lines behind the machine line.
+fn small_replays(
+    rt: &impl Abort,
+    alloc: Global,
+    lines: &[u8],
+    status: u8,
+    text: &[u8],
+) -> Result<(), Fail> {
+    let mut input = Vec::from_slice(alloc, SMALL)?;
+    input.extend_from_slice(lines)?;
+    replays(rt, alloc, input.as_slice(), status, text)
+}
+
+#[test]
+fn a_write_is_read(rt: HostRuntime) -> Result<(), Fail> {
+    let text =
+        b"call 0 1 0 write 0 0 7 = ok\ncall 1 1 1 read 0 0 1 = 7\nplugged 0 1 2 3\npage 0 movable 0 0:7\nend\n";
+    small_replays(
+        &rt,
+        rt.alloc(),
+        b"page 0 movable 0\n1 write 0 0 7\n1 read 0 0 1\n",
+        0,
+        text,
+    )
+}
+
+#[test]
+fn a_machine_alone_has_its_plugged_blocks(rt: HostRuntime) -> Result<(), Fail> {
+    replays(
+        &rt,
+        rt.alloc(),
+        b"machine 2 4 2 4 2 8\n",
+        0,
+        b"plugged 0 1\nend\n",
+    )
+}
+
+#[test]
+fn two_owners_read_and_write(rt: HostRuntime) -> Result<(), Fail> {
+    let lines =
+        b"page 0 movable 0\npage 1 unmovable 3\n1 write 0 0 7\n2 read 0 0 2\n1 read 1 1 1\n2 write 1 1 9\n1 read 1 0 2\n";
+    let text =
+        b"call 0 1 0 write 0 0 7 = ok\ncall 1 2 0 read 0 0 2 = 7 0\ncall 2 1 1 read 1 1 1 = 0\ncall 3 1 2 read 1 0 2 = 0 0\ncall 4 2 1 write 1 1 9 = ok\nplugged 0 1 2 3\npage 0 movable 0 0:7\npage 1 unmovable 0 1:9\nend\n";
+    small_replays(&rt, rt.alloc(), lines, 0, text)
+}
+
+/// Scenarios of one or two pages, and what they leave, counted turn by turn from the steps of each call.
+const SCHEDULES: [(&[u8], &[u8]); 8] = [
+    // the write holds the page: three takes of the read find it taken
+    (
+        b"page 0 movable 0\n1 write 0 0 7\n2 read 0 0 1\nturns 1 2*3 1*4\n",
+        b"call 0 1 0 write 0 0 7 = ok\ncall 1 2 0 read 0 0 1 = 7\nplugged 0 1 2 3\npage 0 movable 0 0:7\nend\n",
+    ),
+    // the read holds the page
+    (
+        b"page 0 movable 0\n1 write 0 0 7\n2 read 0 0 1\nturns 2 1*3 2*3\n",
+        b"call 0 2 0 read 0 0 1 = 0\ncall 1 1 0 write 0 0 7 = ok\nplugged 0 1 2 3\npage 0 movable 0 0:7\nend\n",
+    ),
+    // turns of the host, of the scanner and of an owner without a script do nothing
+    (
+        b"page 0 movable 0\n1 write 0 0 7\n2 read 0 0 1\nturns 16*5 h s*2\nturns 2 1*3 h*9 2*3\n",
+        b"call 0 2 0 read 0 0 1 = 0\ncall 1 1 0 write 0 0 7 = ok\nplugged 0 1 2 3\npage 0 movable 0 0:7\nend\n",
+    ),
+    // tickets are drawn in the other order than calls end
+    (
+        b"page 0 movable 0\npage 1 movable 1\n1 write 0 0 7\n2 write 1 0 9\nturns 1 2*2 1*4\n",
+        b"call 0 2 0 write 1 0 9 = ok\ncall 1 1 0 write 0 0 7 = ok\nplugged 0 1 2 3\npage 0 movable 0 0:7\npage 1 movable 0 0:9\nend\n",
+    ),
+    // the second add begins between the load and the store of the first
+    (
+        b"page 0 movable 0\n1 add 0 0 5\n2 add 0 0 5\nturns 1*3 2*2 1*3\n",
+        b"call 0 1 0 add 0 0 5 = 0\ncall 1 2 0 add 0 0 5 = 5\nplugged 0 1 2 3\npage 0 movable 0 0:10\nend\n",
+    ),
+    // in rounds: the unpin takes the page in the third, the second pin in the sixth
+    (
+        b"page 0 movable 0\n1 x2 pin 0\n2 unpin 0\n",
+        b"call 0 1 0 pin 0 = ok\ncall 1 2 0 unpin 0 = ok\ncall 2 1 1 pin 0 = ok\nplugged 0 1 2 3\npage 0 movable 1\nend\n",
+    ),
+    // calls on a page that isn't mapped, and an unpin without a pin
+    (
+        b"page 0 movable 0\n1 add 1 0 5\n1 unpin 0\n2 write 1 0 1 2\n2 pin 1\nturns 2*3\n",
+        b"call 0 2 0 write 1 0 1 2 = notmapped\ncall 1 1 0 add 1 0 5 = notmapped\ncall 2 2 1 pin 1 = notmapped\ncall 3 1 1 unpin 0 = notpinned\nplugged 0 1 2 3\npage 0 movable 0\nend\n",
+    ),
+    // a sum goes round at 2^64
+    (
+        b"page 0 movable 0\n1 x2 add 0 1 18446744073709551615\n",
+        b"call 0 1 0 add 0 1 18446744073709551615 = 0\ncall 1 1 1 add 0 1 18446744073709551615 = 18446744073709551615\nplugged 0 1 2 3\npage 0 movable 0 1:18446744073709551614\nend\n",
+    ),
+];
+
+#[test]
+fn schedules_leave_what_their_steps_leave(rt: HostRuntime) -> Result<(), Fail> {
+    for (lines, text) in &SCHEDULES {
+        small_replays(&rt, rt.alloc(), lines, 0, text)?;
+    }
+    Ok(())
+}
+
+#[test]
+fn a_free_is_not_read_yet(rt: HostRuntime) -> Result<(), Fail> {
+    small_replays(
+        &rt,
+        rt.alloc(),
+        b"page 0 movable 0\n1 free 0\n",
+        3,
+        b"scenario: line 3: later\n",
+    )
+}
+
+#[test]
+fn refused_inputs_name_their_first_bad_line(rt: HostRuntime) -> Result<(), Fail> {
+    replays(
+        &rt,
+        rt.alloc(),
+        b"machine 3 4 2 4 4 8\n",
+        3,
+        b"scenario: line 1: range\n",
+    )?;
+    replays(&rt, rt.alloc(), b"", 3, b"scenario: line 0: empty\n")?;
+    small_replays(
+        &rt,
+        rt.alloc(),
+        b"1 read 0 1 2\n",
+        3,
+        b"scenario: line 2: range\n",
+    )?;
+    small_replays(
+        &rt,
+        rt.alloc(),
+        b"1 frob 0\n",
+        3,
+        b"scenario: line 2: word\n",
+    )?;
+    small_replays(
+        &rt,
+        rt.alloc(),
+        b"1 read 0\n",
+        3,
+        b"scenario: line 2: form\n",
+    )?;
+    small_replays(&rt, rt.alloc(), SMALL, 3, b"scenario: line 2: order\n")?;
+    small_replays(
+        &rt,
+        rt.alloc(),
+        b"page 0 unmovable 8\n",
+        3,
+        b"scenario: line 2: page\n",
+    )
+}
+
+/// These words are no command.
+fn no_command(rt: &impl Abort, alloc: Global, words: &[&str]) -> Result<(), Fail> {
+    let mut source = MemSource::new(bytes_of(alloc, SMALL)?, numbers_of(alloc, &[])?);
+    let mut sink = MemSink::with_room(alloc, 4096).ok().ok_or("room")?;
+    let finish = replay_main(alloc, words, &mut source, &mut sink);
+    let usage = b"usage: evac replay|run [--quiet|--image], check, show, gen N\n";
+    assert_eq!(rt; finish.status, 2);
+    assert_eq!(rt; sink.bytes(), usage.as_slice());
+    Ok(())
+}
+
+#[test]
+fn other_words_are_no_command(rt: HostRuntime) -> Result<(), Fail> {
+    no_command(&rt, rt.alloc(), &[])?;
+    no_command(&rt, rt.alloc(), &["replay", "--quiet", "--quiet"])?;
+    no_command(&rt, rt.alloc(), &["replay", "--"])?;
+    no_command(&rt, rt.alloc(), &["gen", "05"])?;
+    no_command(&rt, rt.alloc(), &["run"])?;
+    no_command(&rt, rt.alloc(), &["replay", "--quiet"])?;
+    no_command(&rt, rt.alloc(), &["--help"])
+}
+
+/// A write and a read of page 0.
+const WRITE_AND_READ: &[u8] =
+    b"machine 2 4 2 4 4 8\npage 0 movable 0\n1 write 0 0 7\n1 read 0 0 1\n";
+
+#[test]
+fn a_failed_read_is_told(rt: HostRuntime) -> Result<(), Fail> {
+    let alloc = rt.alloc();
+    let mut source = MemSource::new(bytes_of(alloc, WRITE_AND_READ)?, numbers_of(alloc, &[1])?);
+    let mut sink = MemSink::with_room(alloc, 4096).ok().ok_or("room")?;
+    let finish = replay_main(alloc, &["replay"], &mut source, &mut sink);
+    assert_eq!(rt; finish.status, 4);
+    assert!(rt; finish.report.is_none());
+    assert_eq!(rt; sink.bytes(), b"read fault\n".as_slice());
+    Ok(())
+}
+
+#[test]
+fn a_full_sink_keeps_a_prefix_of_the_text(rt: HostRuntime) -> Result<(), Fail> {
+    let alloc = rt.alloc();
+    let mut source = MemSource::new(bytes_of(alloc, WRITE_AND_READ)?, numbers_of(alloc, &[])?);
+    let mut sink = MemSink::with_room(alloc, 10).ok().ok_or("room")?;
+    let finish = replay_main(alloc, &["replay"], &mut source, &mut sink);
+    assert_eq!(rt; finish.status, 5);
+    assert_eq!(rt; sink.bytes(), b"call 0 1 0".as_slice());
+    assert!(rt; finish.report.is_some());
+    Ok(())
+}
+
+#[test]
+fn a_fault_while_the_line_is_written_keeps_the_status(rt: HostRuntime) -> Result<(), Fail> {
+    let alloc = rt.alloc();
+    let mut source = MemSource::new(bytes_of(alloc, b"")?, numbers_of(alloc, &[])?);
+    let mut sink = MemSink::with_room(alloc, 5).ok().ok_or("room")?;
+    let finish = replay_main(alloc, &["replay"], &mut source, &mut sink);
+    assert_eq!(rt; finish.status, 3);
+    assert_eq!(rt; sink.bytes(), b"scena".as_slice());
+    Ok(())
+}
+
+/// A source that never ends. It tells nothing.
+#[derive(Drop)]
+struct Endless;
+
+impl Source for Endless {
+    ghost left = { λ _. None };
+
+    ghost faults = { λ _. 0 };
+
+    fn read(&mut self, into: &mut [u8]) -> Result<usize, Failed> {
+        Ok(into.len())
+    }
+}
+
+#[test]
+fn an_input_without_end_is_too_long(rt: HostRuntime) -> Result<(), Fail> {
+    let alloc = rt.alloc();
+    let mut sink = MemSink::with_room(alloc, 4096).ok().ok_or("room")?;
+    let finish = replay_main(alloc, &["replay"], &mut Endless, &mut sink);
+    assert_eq!(rt; finish.status, 3);
+    assert_eq!(rt; sink.bytes(), b"input: size\n".as_slice());
+    Ok(())
+}
+
+/// The plain machine answers an entry's call as the entry says.
+fn is_answered_alike(rt: &impl Abort, plain: &mut Plain, geometry: &Geometry, e: &Entry)
+    requires { plain.old.sizes ≡ geometry.now }
+    ensures { plain.new.sizes ≡ geometry.now }
+{
+    assert!(rt; e.page.0 < geometry.pages());
+    assert!(rt; e.call.fits(geometry));
+    assert_eq!(rt; plain.apply(e.page, &e.call, None), e.reply);
+}
+
+/// The plain machine answers each entry's call as the entry says, one after another.
+fn are_answered_alike(rt: &impl Abort, plain: &mut Plain, geometry: &Geometry, entries: &[Entry])
+    requires { plain.old.sizes ≡ geometry.now }
+    ensures { plain.new.sizes ≡ geometry.now }
+{
+    for e in entries {
+        is_answered_alike(rt, plain, geometry, e);
+    }
+}
+
+#[test]
+fn replies_are_those_of_the_plain_machine(rt: HostRuntime) -> Result<(), Fail> {
+    let alloc = rt.alloc();
+    let lines =
+        b"machine 4 2 1 2 2 4\npage 1 movable 5\n1 write 1 0 9 8\n2 read 1 0 4\n2 read 3 0 1\n1 read 1 1 2\n2 write 1 1 1\n1 read 1 0 4\n";
+    let mut source = MemSource::new(bytes_of(alloc, lines)?, numbers_of(alloc, &[])?);
+    let mut sink = MemSink::with_room(alloc, 4096).ok().ok_or("room")?;
+    let report = replay_main(alloc, &["replay"], &mut source, &mut sink).report;
+    let report = report.ok_or("report")?;
+    let geometry = Geometry::new(4, 2, 1, 2, 2, 4)?;
+    let start = [StartPage {
+        page: PageNo(1),
+        kind: Kind::Movable,
+        frame: FrameNo(5),
+    }];
+    let mut plain = Plain::new(alloc, geometry, &start)?;
+    assert_eq!(rt; report.history.len(), 6);
+    are_answered_alike(&rt, &mut plain, &geometry, report.history.as_slice());
+    Ok(())
+}
