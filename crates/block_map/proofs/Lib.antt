@@ -1,4 +1,2 @@
-pub mod Ranges
-pub mod Lists
 pub mod Words
 pub mod Maps

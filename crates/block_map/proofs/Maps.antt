@@ -6,61 +6,62 @@ use Rattle.std.proofs.lemmas.Bool.{cases_lt}
 use Rattle.std.proofs.lemmas.Nat.{mul-le}
 use Rattle.evac_model.specs.Geometry.{Sizes, IsWithinLimits, block_bytes}
 use Rattle.evac_model.specs.GeometryLimits.{IsPowerTo512}
-use Rattle.block_map.specs.Blocks.{Blocks, blocks_where, is_in, is_between, with_range, without_range, IsAllPlugged, IsNonePlugged, IsRisingBelow}
+use Rattle.evac_model.specs.Numbers.{with_range, without_range, IsRisingBelow, numbers_where, is_in, is_between}
+use Rattle.block_map.specs.Blocks.{Blocks, IsAllPlugged, IsNonePlugged}
 use Rattle.block_map.specs.Bits.{has_bit, AreAllSet, AreNoneSet}
 use Rattle.block_map.specs.MapInside.{IsKept}
-use Rattle.block_map.proofs.Ranges.{between_inside, between_above}
-use Rattle.block_map.proofs.Lists.{blocks_agree, is_in-blocks_where, is_in-blocks_where_past, length-blocks_where, blocks_where-front, blocks_where-none}
+use Rattle.evac_model.proofs.Ranges.{between_inside, between_above}
+use Rattle.evac_model.proofs.Numbers.{numbers_agree, is_in-numbers_where, is_in-numbers_where_past, length-numbers_where, numbers_where-front, numbers_where-none}
 use Rattle.block_map.proofs.Words.{has_bit-replicate}
 
 -- the value of a map with these sizes, whose set bits pass the test
 abbrev pub value_of : Sizes → (ℕ → Bool) → Blocks
-value_of s test = record { sizes = s; plugged = blocks_where test s.managed }
+value_of s test = record { sizes = s; plugged = numbers_where test s.managed }
 
 pub value_rising : (s : Sizes) (test : ℕ → Bool) (v : Blocks) → value_of s test ≡ v → IsRisingBelow v.sizes.managed v.plugged
 value_rising s test v e =
     let P : Blocks → Type 0 = λ (x : Blocks). IsRisingBelow x.sizes.managed x.plugged in
-    subst P e (blocks_agree test (λ b. is_in b (blocks_where test s.managed)) s.managed (λ b h. sym (is_in-blocks_where test s.managed b h)))
+    subst P e (numbers_agree test (λ b. is_in b (numbers_where test s.managed)) s.managed (λ b h. sym (is_in-numbers_where test s.managed b h)))
 
 pub is_in-value : (s : Sizes) (test : ℕ → Bool) (v : Blocks) → value_of s test ≡ v → (b : ℕ) → b < s.managed → is_in b v.plugged ≡ test b
-is_in-value s test v e b h = ap (λ (x : Blocks). is_in b x.plugged) (sym e) ∙ is_in-blocks_where test s.managed b h
+is_in-value s test v e b h = ap (λ (x : Blocks). is_in b x.plugged) (sym e) ∙ is_in-numbers_where test s.managed b h
 
 pub is_in-value_past : (s : Sizes) (test : ℕ → Bool) (v : Blocks) → value_of s test ≡ v → (b : ℕ) → s.managed ≤ b → is_in b v.plugged ≡ false
-is_in-value_past s test v e b h = ap (λ (x : Blocks). is_in b x.plugged) (sym e) ∙ is_in-blocks_where_past test s.managed b h
+is_in-value_past s test v e b h = ap (λ (x : Blocks). is_in b x.plugged) (sym e) ∙ is_in-numbers_where_past test s.managed b h
 
 -- the bits of a range set, and cleared
-pub value_with : (s : Sizes) (test : ℕ → Bool) (v : Blocks) → value_of s test ≡ v → (after : ℕ → Bool) (first n : ℕ) → ((k : ℕ) → after k ≡ (test k || is_between first (first + n) k)) → blocks_where after s.managed ≡ with_range first n v.sizes.managed v.plugged
+pub value_with : (s : Sizes) (test : ℕ → Bool) (v : Blocks) → value_of s test ≡ v → (after : ℕ → Bool) (first n : ℕ) → ((k : ℕ) → after k ≡ (test k || is_between first (first + n) k)) → numbers_where after s.managed ≡ with_range first n v.sizes.managed v.plugged
 value_with s test v e after first n bits =
-    let P : Blocks → Type 0 = λ (x : Blocks). blocks_where after s.managed ≡ with_range first n x.sizes.managed x.plugged in
-    subst P e (blocks_agree after (λ b. is_in b (blocks_where test s.managed) || is_between first (first + n) b) s.managed (λ b h. bits b ∙ ap (λ (t : Bool). t || is_between first (first + n) b) (sym (is_in-blocks_where test s.managed b h))))
+    let P : Blocks → Type 0 = λ (x : Blocks). numbers_where after s.managed ≡ with_range first n x.sizes.managed x.plugged in
+    subst P e (numbers_agree after (λ b. is_in b (numbers_where test s.managed) || is_between first (first + n) b) s.managed (λ b h. bits b ∙ ap (λ (t : Bool). t || is_between first (first + n) b) (sym (is_in-numbers_where test s.managed b h))))
 
-pub value_without : (s : Sizes) (test : ℕ → Bool) (v : Blocks) → value_of s test ≡ v → (after : ℕ → Bool) (first n : ℕ) → ((k : ℕ) → after k ≡ (test k && not (is_between first (first + n) k))) → blocks_where after s.managed ≡ without_range first n v.sizes.managed v.plugged
+pub value_without : (s : Sizes) (test : ℕ → Bool) (v : Blocks) → value_of s test ≡ v → (after : ℕ → Bool) (first n : ℕ) → ((k : ℕ) → after k ≡ (test k && not (is_between first (first + n) k))) → numbers_where after s.managed ≡ without_range first n v.sizes.managed v.plugged
 value_without s test v e after first n bits =
-    let P : Blocks → Type 0 = λ (x : Blocks). blocks_where after s.managed ≡ without_range first n x.sizes.managed x.plugged in
-    subst P e (blocks_agree after (λ b. is_in b (blocks_where test s.managed) && not (is_between first (first + n) b)) s.managed (λ b h. bits b ∙ ap (λ (t : Bool). t && not (is_between first (first + n) b)) (sym (is_in-blocks_where test s.managed b h))))
+    let P : Blocks → Type 0 = λ (x : Blocks). numbers_where after s.managed ≡ without_range first n x.sizes.managed x.plugged in
+    subst P e (numbers_agree after (λ b. is_in b (numbers_where test s.managed) && not (is_between first (first + n) b)) s.managed (λ b h. bits b ∙ ap (λ (t : Bool). t && not (is_between first (first + n) b)) (sym (is_in-numbers_where test s.managed b h))))
 
 -- the first bits set in words of zeros
-pub start_plugged : (before words : List ℕ) (size plugged managed : ℕ) → before ≡ replicate size 0 → plugged ≤ managed → ((k : ℕ) → has_bit words k ≡ (has_bit before k || is_between 0 plugged k)) → blocks_where (has_bit words) managed ≡ range_with_len 0 plugged
+pub start_plugged : (before words : List ℕ) (size plugged managed : ℕ) → before ≡ replicate size 0 → plugged ≤ managed → ((k : ℕ) → has_bit words k ≡ (has_bit before k || is_between 0 plugged k)) → numbers_where (has_bit words) managed ≡ range_with_len 0 plugged
 start_plugged before words size plugged managed z h bits =
     let clear : (k : ℕ) → has_bit before k ≡ false = λ k. ap (λ (ws : List ℕ). has_bit ws k) z ∙ has_bit-replicate size k in
-    blocks_where-front (has_bit words) plugged managed h
+    numbers_where-front (has_bit words) plugged managed h
     (λ k l. bits k ∙ ap (λ (t : Bool). t || is_between 0 plugged k) (clear k) ∙ between_inside 0 plugged k (omega arith) l)
     (λ k g. bits k ∙ ap (λ (t : Bool). t || is_between 0 plugged k) (clear k) ∙ between_above 0 plugged k g)
 
-pub start_count : (before words : List ℕ) (size managed count : ℕ) → before ≡ replicate size 0 → length (blocks_where (has_bit words) managed) ≡ length (blocks_where (has_bit before) managed) + count → count ≡ length (blocks_where (has_bit words) managed)
+pub start_count : (before words : List ℕ) (size managed count : ℕ) → before ≡ replicate size 0 → length (numbers_where (has_bit words) managed) ≡ length (numbers_where (has_bit before) managed) + count → count ≡ length (numbers_where (has_bit words) managed)
 start_count before words size managed count z e =
     let clear : (k : ℕ) → has_bit before k ≡ false = λ k. ap (λ (ws : List ℕ). has_bit ws k) z ∙ has_bit-replicate size k in
-    let none : length (blocks_where (has_bit before) managed) ≡ 0 = ap (λ (xs : List ℕ). length xs) (blocks_where-none (has_bit before) managed clear) in
+    let none : length (numbers_where (has_bit before) managed) ≡ 0 = ap (λ (xs : List ℕ). length xs) (numbers_where-none (has_bit before) managed clear) in
     omega (arith, e, none)
 
 -- counts of blocks fit
 pub count_few : (s : Sizes) (words : List ℕ) (count : ℕ) → IsKept s words count → count ≤ 65536
-count_few s words count k = omega (arith, k.counted, length-blocks_where (has_bit words) s.managed, k.within.managed.1)
+count_few s words count k = omega (arith, k.counted, length-numbers_where (has_bit words) s.managed, k.within.managed.1)
 
-pub count_more_few : (s : Sizes) (words before after : List ℕ) (count added : ℕ) → IsKept s words count → before ≡ words → length (blocks_where (has_bit after) s.managed) ≡ length (blocks_where (has_bit before) s.managed) + added → count + added ≤ 65536
+pub count_more_few : (s : Sizes) (words before after : List ℕ) (count added : ℕ) → IsKept s words count → before ≡ words → length (numbers_where (has_bit after) s.managed) ≡ length (numbers_where (has_bit before) s.managed) + added → count + added ≤ 65536
 count_more_few s words before after count added k b e =
-    let same : length (blocks_where (has_bit before) s.managed) ≡ length (blocks_where (has_bit words) s.managed) = ap (λ (ws : List ℕ). length (blocks_where (has_bit ws) s.managed)) b in
-    omega (arith, k.counted, e, same, length-blocks_where (has_bit after) s.managed, k.within.managed.1)
+    let same : length (numbers_where (has_bit before) s.managed) ≡ length (numbers_where (has_bit words) s.managed) = ap (λ (ws : List ℕ). length (numbers_where (has_bit ws) s.managed)) b in
+    omega (arith, k.counted, e, same, length-numbers_where (has_bit after) s.managed, k.within.managed.1)
 
 power_le : (n : ℕ) → IsPowerTo512 n → n ≤ 512
 power_le n p = omega (arith, p.2, pow-le-pow_right {n = 2} (lit< tt) {i = p.0} {j = 9} p.1)

@@ -1,11 +1,11 @@
 -- What the words and the count of a block map keep.
 use Rattle.std.specs.Prelude.{◌≡◌, ℕ, ◌+◌, ◌/◌, List, length}
 use Rattle.evac_model.specs.Geometry.{Sizes, IsWithinLimits}
-use Rattle.block_map.specs.Blocks.{blocks_where}
+use Rattle.evac_model.specs.Numbers.{numbers_where}
 use Rattle.block_map.specs.Bits.{has_bit}
 
 -- there is a word for each 64 blocks and one more, and the count is that of the plugged blocks
 pub record IsKept (sizes : Sizes) (words : List ℕ) (count : ℕ) : Type 0 where
   pub within : IsWithinLimits sizes
   pub room : length words ≡ sizes.managed / 64 + 1
-  pub counted : count ≡ length (blocks_where (has_bit words) sizes.managed)
+  pub counted : count ≡ length (numbers_where (has_bit words) sizes.managed)

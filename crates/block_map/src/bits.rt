@@ -1,7 +1,7 @@
 //! Bits in words of 64: one bit for each number.
 
 ghost use Rattle.std.specs.Prelude.{◌≡◌, ◌≢◌, ◌↔◌, ℕ, ◌+◌, ◌*◌, ◌<◌, ◌≤◌, ◌||◌, ◌&&◌, not, true, false, length, IsTrue};
-ghost use Rattle.block_map.specs.Blocks.{blocks_where, is_between};
+ghost use Rattle.evac_model.specs.Numbers.{numbers_where, is_between};
 ghost use Rattle.block_map.specs.Bits.{has_bit, AreBits, AreAllSet, AreNoneSet};
 
 /// Whether a bit is set.
@@ -36,7 +36,7 @@ pub fn set_bits(words: &mut [u64], first: u32, last: u32) -> u32
     requires order { first ≤ last }
     requires room { last ≤ 64 * length words.old }
     ensures bits { (k : ℕ) → has_bit words.new k ≡ (has_bit words.old k || is_between first last k) }
-    ensures changed { (m : ℕ) → last ≤ m → length (blocks_where (has_bit words.new) m) ≡ length (blocks_where (has_bit words.old) m) + result }
+    ensures changed { (m : ℕ) → last ≤ m → length (numbers_where (has_bit words.new) m) ≡ length (numbers_where (has_bit words.old) m) + result }
 {
     let mut changed = 0;
     for b in first..last {
@@ -53,7 +53,7 @@ pub fn clear_bits(words: &mut [u64], first: u32, last: u32) -> u32
     requires order { first ≤ last }
     requires room { last ≤ 64 * length words.old }
     ensures bits { (k : ℕ) → has_bit words.new k ≡ (has_bit words.old k && not (is_between first last k)) }
-    ensures changed { (m : ℕ) → last ≤ m → length (blocks_where (has_bit words.new) m) + result ≡ length (blocks_where (has_bit words.old) m) }
+    ensures changed { (m : ℕ) → last ≤ m → length (numbers_where (has_bit words.new) m) + result ≡ length (numbers_where (has_bit words.old) m) }
 {
     let mut changed = 0;
     for b in first..last {

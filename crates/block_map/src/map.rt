@@ -17,13 +17,14 @@ pub struct BlockMap {
 }
 
 impl Model for BlockMap {
-    ghost use Rattle.block_map.specs.Blocks.{Blocks, blocks_where};
+    ghost use Rattle.evac_model.specs.Numbers.{numbers_where};
+    ghost use Rattle.block_map.specs.Blocks.{Blocks};
     ghost use Rattle.block_map.specs.Bits.{has_bit};
     ghost use Rattle.block_map.specs.MapInside.{IsKept};
 
     ghost Value = { Blocks };
 
-    ghost view = { λ m. record { sizes = m.geometry; plugged = blocks_where (has_bit m.words.items) m.geometry.managed } };
+    ghost view = { λ m. record { sizes = m.geometry; plugged = numbers_where (has_bit m.words.items) m.geometry.managed } };
 
     ghost invariant = { λ m. IsKept m.geometry m.words.items m.count };
 }
@@ -41,7 +42,8 @@ impl BlockMap {
     ghost use Rattle.std.specs.Prelude.{◌≡◌, ◌↔◌, ◌+◌, ◌*◌, ◌<◌, ◌≤◌, length, IfOk};
     ghost use Rattle.std.specs.List.{range_with_len};
     ghost use Rattle.evac_model.specs.Geometry.{IsWithinLimits, block_bytes};
-    ghost use Rattle.block_map.specs.Blocks.{is_in, with_range, without_range, IsAllPlugged, IsNonePlugged, IsRisingBelow};
+    ghost use Rattle.evac_model.specs.Numbers.{is_in, with_range, without_range, IsRisingBelow};
+    ghost use Rattle.block_map.specs.Blocks.{IsAllPlugged, IsNonePlugged};
 
     /// The map of a machine at its start: the blocks below `plugged` are plugged. It fails where
     /// there is no memory for the words.

@@ -1,59 +1,9 @@
 //! What a seat knows of the frame space, over shared words. In a core the space stands beside the
 //! views, and this part is empty.
 
-use evac_model::{BlockNo, FrameNo, Kind, PageNo};
+use evac_model::{FrameNo, Kind, PageNo, SpaceAction};
 use std::alloc::Global;
 use std::collections::LinkedList;
-
-/// One action of the frame space.
-#[derive(Clone, Copy, Debug, PartialEq, Eq)]
-pub enum SpaceAction {
-    /// A frame was leased for a page of that kind.
-    Lease {
-        /// The caller: 0 for the driver, 1 to 16 for an owner.
-        who: u32,
-        /// The frame.
-        frame: FrameNo,
-        /// The page.
-        page: PageNo,
-        /// The kind.
-        kind: Kind,
-    },
-    /// The driver leased a target for a page that lies in an isolated block.
-    MoveLease {
-        /// The target.
-        frame: FrameNo,
-        /// The page.
-        page: PageNo,
-    },
-    /// A frame was given back.
-    Return {
-        /// The caller.
-        who: u32,
-        /// The frame.
-        frame: FrameNo,
-    },
-    /// The driver isolated a block.
-    Isolate {
-        /// The block.
-        block: BlockNo,
-    },
-    /// The driver took an isolation back.
-    Undo {
-        /// The block.
-        block: BlockNo,
-    },
-    /// The driver took an isolated block away.
-    Offline {
-        /// The block.
-        block: BlockNo,
-    },
-    /// The driver gave a block back.
-    Online {
-        /// The block.
-        block: BlockNo,
-    },
-}
 
 /// An action of the seat, with its place in the space journal.
 #[derive(Drop)]

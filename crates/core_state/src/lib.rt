@@ -31,7 +31,7 @@ mod step;
 mod view;
 mod view_steps;
 
-pub use actions::{Actions, IsolationRefusal, LeaseRefusal, PlacedAction, SpaceAction};
+pub use actions::{Actions, IsolationRefusal, LeaseRefusal, PlacedAction};
 pub use hand::{Aim, Hand, HandFrame};
 pub use held::{Change, Held};
 pub use keeper::Keeper;

@@ -6,3 +6,5 @@ pub mod Slots
 pub mod Answers
 pub mod PageSizes
 pub mod Refusals
+pub mod Numbers
+pub mod Ranges

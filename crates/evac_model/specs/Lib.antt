@@ -3,6 +3,9 @@ pub mod GeometryLimits
 pub mod Geometry
 pub mod Page
 pub mod State
+pub mod Numbers
+pub mod FreeRuns
+pub mod SpaceJournal
 pub mod Tables
 pub mod Answer
 pub mod History

@@ -1,8 +1,10 @@
 //! Laws of the definitions, in the subject's own words. Each function has an empty body: its
 //! contract is the law.
 
-ghost use Rattle.std.specs.Prelude.{◌≡◌, ℕ, ◌++◌, ◌∷◌, [], List, Option, None, Some, IfSome, length};
+ghost use Rattle.std.specs.Prelude.{◌≡◌, ◌↔◌, ℕ, Bool, true, nat_lt, ◌&&◌, ◌++◌, ◌∷◌, [], List, Contains, Option, None, Some, IfSome, length};
 ghost use Rattle.std.specs.List.{slice_get, AllByRecursion};
+ghost use Rattle.std.specs.List.Sorted.{IsStrictlyIncreasing};
+ghost use Rattle.evac_model.specs.Numbers.{numbers_where, is_in};
 ghost use Rattle.evac_model.specs.declared.call.Call.{Call};
 ghost use Rattle.evac_model.specs.declared.entry.Entry.{Entry};
 ghost use Rattle.evac_model.specs.declared.scenario.StartPage.{StartPage};
@@ -37,4 +39,15 @@ pub fn legal_push()
 /// Pages keep the machine's number of cells, and at most 63 pins, under calls that fit it.
 pub fn pages_stay_in_size()
     ensures { (s : Sizes) (start : List StartPage) (entries : List Entry) → AllByRecursion (λ e. IsCallFor s e.call) entries → (page : ℕ) → IfSome (page_at (after_entries s.cells (start_state s.cells start) entries) page) (IsPage s.cells) }
+{}
+
+/// The numbers below n that pass a test are rising, and are those numbers and no others.
+pub fn numbers_that_pass()
+    ensures rising { (test : ℕ → Bool) (n : ℕ) → IsStrictlyIncreasing (numbers_where test n) }
+    ensures those { (test : ℕ → Bool) (n b : ℕ) → is_in b (numbers_where test n) ≡ (nat_lt b n && test b) }
+{}
+
+/// `is_in` says whether a number is one of a list's.
+pub fn is_in_contains()
+    ensures { (xs : List ℕ) (b : ℕ) → (is_in b xs ≡ true) ↔ Contains xs b }
 {}

@@ -14,6 +14,7 @@ mod plain;
 mod reply;
 mod scenario;
 mod slot;
+mod space;
 
 pub use call::Call;
 pub use cells::Cells;
@@ -21,8 +22,8 @@ pub use device::{Config, Request, Response, STATE_MIXED, STATE_PLUGGED, STATE_UN
 pub use entry::{Entry, EntryList};
 pub use geometry::{Geometry, GeometryFault};
 pub use laws::{
-    lease_counts_for_alloc_alone, legal_push, legal_tickets, pages_stay_in_size,
-    refusal_changes_nothing,
+    is_in_contains, lease_counts_for_alloc_alone, legal_push, legal_tickets, numbers_that_pass,
+    pages_stay_in_size, refusal_changes_nothing,
 };
 pub use list::{BlockList, ByteList, Listed, NumberList};
 pub use names::{BlockNo, FrameNo, Kind, OutOfMemory, PageNo};
@@ -32,6 +33,7 @@ pub use scenario::{
     Actor, CallList, Drawn, LineCause, Scenario, ScenarioFault, ScriptList, StartPage,
     StartPageList, Turn, TurnList,
 };
+pub use space::{IsolateFault, LeaseFault, NotEmpty, SpaceAction, Unmovable};
 
 #[cfg(test)]
 mod tests;

@@ -1,5 +1,5 @@
 use Rattle.std.proofs.Common.{◌≡◌, ◌+◌, ◌≤◌, ◌&&◌, not, ℕ, length}
-use Rattle.block_map.specs.Blocks.{blocks_where, is_between}
+use Rattle.evac_model.specs.Numbers.{numbers_where, is_between}
 use Rattle.block_map.specs.Bits.{has_bit}
 use Rattle.block_map.proofs.bits.clear_bits.Given as goal
 
@@ -7,5 +7,5 @@ abbrev pub invariant-loop-b : goal.invariant-loop-b
 invariant-loop-b l = record {
   few : l.changed + l.first ≤ l.b;
   bits : (k : ℕ) → has_bit l.words k ≡ (has_bit l.initial.words k && not (is_between l.first l.b k));
-  changed : (m : ℕ) → l.last ≤ m → length (blocks_where (has_bit l.words) m) + l.changed ≡ length (blocks_where (has_bit l.initial.words) m);
+  changed : (m : ℕ) → l.last ≤ m → length (numbers_where (has_bit l.words) m) + l.changed ≡ length (numbers_where (has_bit l.initial.words) m);
 }

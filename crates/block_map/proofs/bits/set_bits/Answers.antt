@@ -1,7 +1,7 @@
 use Rattle.std.proofs.Common.{sym, ◌∙◌, arith}
 use Rattle.block_map.specs.Bits.{has_bit}
-use Rattle.block_map.proofs.Ranges.{with_more, with_same}
-use Rattle.block_map.proofs.Lists.{length-blocks_where_more}
+use Rattle.evac_model.proofs.Ranges.{with_more, with_same}
+use Rattle.evac_model.proofs.Numbers.{length-numbers_where_more}
 use Rattle.block_map.proofs.bits.set_bits.Goals as goal
 use Rattle.block_map.proofs.bits.set_bits.Goals.{then-not-bit, else-not-bit}
 
@@ -14,7 +14,7 @@ loop-b-preserved c =
           rw (w.words-is, w.changed-is) (record {
             few = omega arith;
             bits = with_more old before (has_bit w.set_bit.new.words) c.args.first c.loop-b.b (omega arith) c.loop-b.invariant.bits w.set_bit.ensures.here w.set_bit.ensures.others;
-            changed = λ m h. omega (arith, length-blocks_where_more before (has_bit w.set_bit.new.words) m c.loop-b.b (omega arith) (sym c.bit.ensures ∙ w.if-not-bit.true) w.set_bit.ensures.here w.set_bit.ensures.others, c.loop-b.invariant.changed m h);
+            changed = λ m h. omega (arith, length-numbers_where_more before (has_bit w.set_bit.new.words) m c.loop-b.b (omega arith) (sym c.bit.ensures ∙ w.if-not-bit.true) w.set_bit.ensures.here w.set_bit.ensures.others, c.loop-b.invariant.changed m h);
           })
       | else-not-bit w ↦
           rw (w.words-is, w.changed-is) (record {

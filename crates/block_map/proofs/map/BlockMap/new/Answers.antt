@@ -1,7 +1,7 @@
 use Rattle.std.proofs.Common.{List, ℕ, ◌∙◌, ap, arith, subst, sym}
 use Rattle.std.specs.List.{range_with_len}
 use Rattle.std.proofs.lemmas.List.{with_items_is}
-use Rattle.block_map.specs.Blocks.{blocks_where}
+use Rattle.evac_model.specs.Numbers.{numbers_where}
 use Rattle.block_map.specs.Bits.{has_bit}
 use Rattle.block_map.specs.MapInside.{IsKept}
 use Rattle.block_map.proofs.Maps.{start_plugged, start_count}
@@ -23,6 +23,6 @@ pub returns-clause-plugged : goal.returns-clause-plugged
 returns-clause-plugged c =
     let after = c.set_bits-count.new.words in
     let zeros = c.deref_mut.ensures.value ∙ c.in_ok-words.ensures.items_if_clones_equal (λ y e. e) in
-    ap (λ (ws : List ℕ). blocks_where (has_bit ws) c.args.g.managed) (with_items_is c.in_ok-words.words after (omega (arith, c.set_bits-count.auto.words, c.deref_mut.ensures.len)))
+    ap (λ (ws : List ℕ). numbers_where (has_bit ws) c.args.g.managed) (with_items_is c.in_ok-words.words after (omega (arith, c.set_bits-count.auto.words, c.deref_mut.ensures.len)))
     ∙ start_plugged c.deref_mut.result.now after _ c.plugged.result c.args.g.managed zeros (omega (arith, c.plugged.ensures.size, c.managed.ensures.within.plugged)) c.set_bits-count.ensures.bits
     ∙ ap (range_with_len 0) c.plugged.ensures.size

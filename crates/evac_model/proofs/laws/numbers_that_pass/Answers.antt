@@ -4,8 +4,8 @@ use Rattle.std.specs.List.Sorted.{IsStrictlyIncreasing}
 use Rattle.std.proofs.lemmas.Bool.{cases_lt, lt-ltb, le-ltb}
 use Rattle.std.proofs.lemmas.List.FromFn.{length-range_with_len, get_or-range_with_len}
 use Rattle.std.proofs.lemmas.List.Kept.{IsStrictlyIncreasing-filter}
-use Rattle.block_map.proofs.Lists.{is_in-blocks_where, is_in-blocks_where_past}
-use Rattle.block_map.proofs.laws.numbers_that_pass.Goals as goal
+use Rattle.evac_model.proofs.Numbers.{is_in-numbers_where, is_in-numbers_where_past}
+use Rattle.evac_model.proofs.laws.numbers_that_pass.Goals as goal
 
 IsStrictlyIncreasing-range : (n : ℕ) → IsStrictlyIncreasing (range_with_len 0 n)
 IsStrictlyIncreasing-range n k h =
@@ -18,6 +18,6 @@ returns-clause-rising c = λ test n. IsStrictlyIncreasing-filter test (range_wit
 pub returns-clause-those : goal.returns-clause-those
 returns-clause-those c = λ test n b.
     elim (cases_lt b n) [
-      | inl l ↦ is_in-blocks_where test n b l ∙ sym (ap (λ (t : Bool). t && test b) (lt-ltb b n l))
-      | inr g ↦ is_in-blocks_where_past test n b g ∙ sym (ap (λ (t : Bool). t && test b) (le-ltb b n g))
+      | inl l ↦ is_in-numbers_where test n b l ∙ sym (ap (λ (t : Bool). t && test b) (lt-ltb b n l))
+      | inr g ↦ is_in-numbers_where_past test n b g ∙ sym (ap (λ (t : Bool). t && test b) (le-ltb b n g))
     ]

@@ -2,8 +2,8 @@ use Rattle.std.proofs.Common.{◌≡◌, refl, sym}
 use Rattle.std.proofs.Math.Dec.{eqb}
 use Rattle.std.proofs.lemmas.Bool.Decides.{Decides-eqb, Decides-like, Decides-by_or}
 use Rattle.std.proofs.lemmas.List.Elements.{Decides-contains}
-use Rattle.block_map.specs.Blocks.{is_in}
-use Rattle.block_map.proofs.laws.is_in_contains.Goals as goal
+use Rattle.evac_model.specs.Numbers.{is_in}
+use Rattle.evac_model.proofs.laws.is_in_contains.Goals as goal
 
 pub returns : goal.returns
 returns c = λ xs b.

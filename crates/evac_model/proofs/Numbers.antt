@@ -3,7 +3,7 @@ use Rattle.std.proofs.Common.{◌≡◌, ◌≢◌, ℕ, zero, suc, ◌+◌, ◌
 use Rattle.std.specs.List.{filter, range_with_len}
 use Rattle.std.proofs.lemmas.Bool.{cases_eq, eq-eqb, ne_eqb}
 use Rattle.std.proofs.Math.Dec.{eqb}
-use Rattle.block_map.specs.Blocks.{blocks_where, is_in}
+use Rattle.evac_model.specs.Numbers.{numbers_where, is_in}
 
 -- two tests that agree on n numbers keep the same of them
 filter_range_agree : (p q : ℕ → Bool) (a n : ℕ) → ((b : ℕ) → a ≤ b → b < a + n → p b ≡ q b) → filter p (range_with_len a n) ≡ filter q (range_with_len a n)
@@ -13,8 +13,8 @@ filter_range_agree p q a (suc n) h =
     let rest : filter p (range_with_len (a + 1) n) ≡ filter q (range_with_len (a + 1) n) = filter_range_agree p q (a + 1) n (λ b x y. h b (omega arith) (omega arith)) in
     rw (here, rest) refl
 
-pub blocks_agree : (p q : ℕ → Bool) (n : ℕ) → ((b : ℕ) → b < n → p b ≡ q b) → blocks_where p n ≡ blocks_where q n
-blocks_agree p q n h = filter_range_agree p q 0 n (λ b x y. h b (omega (arith, y)))
+pub numbers_agree : (p q : ℕ → Bool) (n : ℕ) → ((b : ℕ) → b < n → p b ≡ q b) → numbers_where p n ≡ numbers_where q n
+numbers_agree p q n h = filter_range_agree p q 0 n (λ b x y. h b (omega (arith, y)))
 
 -- a number is not in a list for another in front of it, or for itself in front of it
 is_in_other : (b a : ℕ) (xs : List ℕ) (t : Bool) → eqb b a ≡ false → is_in b (cond t (a ∷ xs) xs) ≡ is_in b xs
@@ -45,11 +45,11 @@ is_in_range p a (suc n) b h l =
       | inr ne ↦ is_in_other b a (filter p (range_with_len (a + 1) n)) (p a) (ne_eqb b a ne) ∙ is_in_range p (a + 1) n b (omega (arith, ne)) (omega arith)
     ]
 
-pub is_in-blocks_where : (p : ℕ → Bool) (n b : ℕ) → b < n → is_in b (blocks_where p n) ≡ p b
-is_in-blocks_where p n b h = is_in_range p 0 n b (omega arith) (omega (arith, h))
+pub is_in-numbers_where : (p : ℕ → Bool) (n b : ℕ) → b < n → is_in b (numbers_where p n) ≡ p b
+is_in-numbers_where p n b h = is_in_range p 0 n b (omega arith) (omega (arith, h))
 
-pub is_in-blocks_where_past : (p : ℕ → Bool) (n b : ℕ) → n ≤ b → is_in b (blocks_where p n) ≡ false
-is_in-blocks_where_past p n b h = is_in_above p 0 n b (omega (arith, h))
+pub is_in-numbers_where_past : (p : ℕ → Bool) (n b : ℕ) → n ≤ b → is_in b (numbers_where p n) ≡ false
+is_in-numbers_where_past p n b h = is_in_above p 0 n b (omega (arith, h))
 
 -- no more are kept than there are
 length_cond : (t : Bool) (a : ℕ) (xs : List ℕ) (n : ℕ) → length xs ≤ n → length (cond t (a ∷ xs) xs) ≤ suc n
@@ -60,8 +60,8 @@ length_filter_range : (p : ℕ → Bool) (a n : ℕ) → length (filter p (range
 length_filter_range p a zero = omega arith
 length_filter_range p a (suc n) = length_cond (p a) a (filter p (range_with_len (a + 1) n)) n (length_filter_range p (a + 1) n)
 
-pub length-blocks_where : (p : ℕ → Bool) (n : ℕ) → length (blocks_where p n) ≤ n
-length-blocks_where p n = length_filter_range p 0 n
+pub length-numbers_where : (p : ℕ → Bool) (n : ℕ) → length (numbers_where p n) ≤ n
+length-numbers_where p n = length_filter_range p 0 n
 
 -- where one number more passes, one more is kept
 length_cond_more : (t : Bool) (a : ℕ) (xs ys : List ℕ) → length ys ≡ length xs + 1 → length (cond t (a ∷ ys) ys) ≡ length (cond t (a ∷ xs) xs) + 1
@@ -83,8 +83,8 @@ length_filter_one_more p q a (suc n) b pb qb others h l =
           rw here (length_cond_more (p a) a (filter p (range_with_len (a + 1) n)) (filter q (range_with_len (a + 1) n)) rest)
     ]
 
-pub length-blocks_where_more : (p q : ℕ → Bool) (n b : ℕ) → b < n → p b ≡ false → q b ≡ true → ((k : ℕ) → k ≢ b → q k ≡ p k) → length (blocks_where q n) ≡ length (blocks_where p n) + 1
-length-blocks_where_more p q n b l pb qb others = length_filter_one_more p q 0 n b pb qb others (omega arith) (omega (arith, l))
+pub length-numbers_where_more : (p q : ℕ → Bool) (n b : ℕ) → b < n → p b ≡ false → q b ≡ true → ((k : ℕ) → k ≢ b → q k ≡ p k) → length (numbers_where q n) ≡ length (numbers_where p n) + 1
+length-numbers_where_more p q n b l pb qb others = length_filter_one_more p q 0 n b pb qb others (omega arith) (omega (arith, l))
 
 -- those of a range that pass, where just its first n numbers do
 filter_range_front : (p : ℕ → Bool) (a n m : ℕ) → n ≤ m → ((k : ℕ) → a ≤ k → k < a + n → p k ≡ true) → ((k : ℕ) → a + n ≤ k → p k ≡ false) → filter p (range_with_len a m) ≡ range_with_len a n
@@ -99,9 +99,9 @@ filter_range_front p a (suc n) (suc m) h all none =
     let rest : filter p (range_with_len (a + 1) m) ≡ range_with_len (a + 1) n = filter_range_front p (a + 1) n m (omega arith) (λ k x y. all k (omega arith) (omega arith)) (λ k x. none k (omega arith)) in
     rw (here, rest) refl
 
-pub blocks_where-front : (p : ℕ → Bool) (n m : ℕ) → n ≤ m → ((k : ℕ) → k < n → p k ≡ true) → ((k : ℕ) → n ≤ k → p k ≡ false) → blocks_where p m ≡ range_with_len 0 n
-blocks_where-front p n m h all none = filter_range_front p 0 n m h (λ k x y. all k (omega (arith, y))) (λ k x. none k (omega (arith, x)))
+pub numbers_where-front : (p : ℕ → Bool) (n m : ℕ) → n ≤ m → ((k : ℕ) → k < n → p k ≡ true) → ((k : ℕ) → n ≤ k → p k ≡ false) → numbers_where p m ≡ range_with_len 0 n
+numbers_where-front p n m h all none = filter_range_front p 0 n m h (λ k x y. all k (omega (arith, y))) (λ k x. none k (omega (arith, x)))
 
 -- none of them, where none passes
-pub blocks_where-none : (p : ℕ → Bool) (n : ℕ) → ((k : ℕ) → p k ≡ false) → blocks_where p n ≡ []
-blocks_where-none p n none = blocks_where-front p 0 n (omega arith) (λ k l. absurd (omega (arith, l))) (λ k l. none k)
+pub numbers_where-none : (p : ℕ → Bool) (n : ℕ) → ((k : ℕ) → p k ≡ false) → numbers_where p n ≡ []
+numbers_where-none p n none = numbers_where-front p 0 n (omega arith) (λ k l. absurd (omega (arith, l))) (λ k l. none k)

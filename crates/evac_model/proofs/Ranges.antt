@@ -2,7 +2,7 @@
 use Rattle.std.proofs.Common.{◌≡◌, ◌≢◌, ℕ, ◌+◌, ◌<◌, ◌≤◌, Bool, true, false, not, ◌&&◌, ◌||◌, refl, sym, ap, ◌∙◌, arith, inl, inr}
 use Rattle.std.proofs.lemmas.Bool.{cases_lt, cases_eq}
 use Rattle.std.proofs.lemmas.Bool.Decides.{nat_tests}
-use Rattle.block_map.specs.Blocks.{is_between}
+use Rattle.evac_model.specs.Numbers.{is_between}
 
 pub between_inside : (first last b : ℕ) → first ≤ b → b < last → is_between first last b ≡ true
 between_inside first last b f l = grind (arith, nat_tests)

@@ -1,0 +1,28 @@
+-- Lists of numbers: those below a bound that pass a test, and which numbers stand in a list.
+use Rattle.std.specs.Prelude.{◌≡◌, ℕ, ◌+◌, Bool, false, ◌==◌, ◌&&◌, ◌||◌, not, nat_le, nat_lt, List, [], ◌∷◌, filter}
+use Rattle.std.specs.List.{range_with_len}
+
+-- the numbers below n that pass a test, rising
+abbrev pub numbers_where : (ℕ → Bool) → ℕ → List ℕ
+numbers_where test n = filter test (range_with_len 0 n)
+
+-- whether a number stands in a list
+abbrev pub is_in : ℕ → List ℕ → Bool
+is_in b [] = false
+is_in b (x ∷ xs) = b == x || is_in b xs
+
+-- whether a number is from first on and below last
+abbrev pub is_between : (first last b : ℕ) → Bool
+is_between first last b = nat_le first b && nat_lt b last
+
+-- the numbers below a bound that stand in a list or in a range of n, rising
+abbrev pub with_range : (first n bound : ℕ) → List ℕ → List ℕ
+with_range first n bound xs = numbers_where (λ b. is_in b xs || is_between first (first + n) b) bound
+
+-- the numbers below a bound that stand in a list and not in a range of n, rising
+abbrev pub without_range : (first n bound : ℕ) → List ℕ → List ℕ
+without_range first n bound xs = numbers_where (λ b. is_in b xs && not (is_between first (first + n) b)) bound
+
+-- the list is rising, and each of its numbers is below the bound
+abbrev pub IsRisingBelow : (bound : ℕ) → List ℕ → Type 0
+IsRisingBelow bound xs = xs ≡ numbers_where (λ b. is_in b xs) bound
