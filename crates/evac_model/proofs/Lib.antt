@@ -8,3 +8,4 @@ pub mod PageSizes
 pub mod Refusals
 pub mod Numbers
 pub mod Ranges
+pub mod Padded

@@ -1,4 +1,6 @@
+pub mod Padded
 pub mod CellsInside
+pub mod RequestBytesInside
 pub mod GeometryLimits
 pub mod Geometry
 pub mod Page
@@ -6,6 +8,7 @@ pub mod State
 pub mod Numbers
 pub mod FreeRuns
 pub mod SpaceJournal
+pub mod DeviceAnswer
 pub mod Tables
 pub mod Answer
 pub mod History

@@ -5,6 +5,7 @@
 mod call;
 mod cells;
 mod device;
+mod device_journal;
 mod entry;
 mod geometry;
 mod laws;
@@ -12,6 +13,7 @@ mod list;
 mod names;
 mod plain;
 mod reply;
+mod request_bytes;
 mod scenario;
 mod slot;
 mod space;
@@ -19,6 +21,7 @@ mod space;
 pub use call::Call;
 pub use cells::Cells;
 pub use device::{Config, Request, Response, STATE_MIXED, STATE_PLUGGED, STATE_UNPLUGGED};
+pub use device_journal::{DeviceAct, DeviceAction, Notice, Notices, Told};
 pub use entry::{Entry, EntryList};
 pub use geometry::{Geometry, GeometryFault};
 pub use laws::{
@@ -29,6 +32,7 @@ pub use list::{BlockList, ByteList, Listed, NumberList};
 pub use names::{BlockNo, FrameNo, Kind, OutOfMemory, PageNo};
 pub use plain::Plain;
 pub use reply::Reply;
+pub use request_bytes::RequestBytes;
 pub use scenario::{
     Actor, CallList, Drawn, LineCause, Scenario, ScenarioFault, ScriptList, StartPage,
     StartPageList, Turn, TurnList,

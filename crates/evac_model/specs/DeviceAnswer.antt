@@ -1,0 +1,130 @@
+-- What a memory device answers to a request, and what its actions leave (Virtio 1.2, 5.15.6; the order of
+-- causes is the project's own).
+use Rattle.std.specs.Prelude.{ℕ, ◌+◌, ◌-◌, ◌*◌, ◌/◌, ◌%◌, Bool, true, false, ◌==◌, ◌&&◌, ◌||◌, not, nat_le, nat_lt, if◌then◌else◌, List, [], ◌∷◌, length, take, drop, Option, None, Some}
+use Rattle.std.specs.List.{range_with_len, list_all}
+use Rattle.evac_model.specs.declared.device.Request.{Request}
+use Rattle.evac_model.specs.declared.device.Request.TheVariants as requests
+use Rattle.evac_model.specs.declared.device.Response.{Response}
+use Rattle.evac_model.specs.declared.device.Response.TheVariants.{Ack, Nack, Busy, Error}
+use Rattle.evac_model.specs.declared.device_journal.DeviceAct.{DeviceAct}
+use Rattle.evac_model.specs.declared.device_journal.DeviceAct.TheVariants as acts
+use Rattle.evac_model.specs.declared.device_journal.DeviceAction.{DeviceAction}
+use Rattle.evac_model.specs.Geometry.{Sizes, block_bytes, address}
+use Rattle.evac_model.specs.Numbers.{is_in, with_range, without_range}
+
+-- the number that bytes make, the lowest first
+abbrev pub le_number : List ℕ → ℕ
+le_number [] = 0
+le_number (byte ∷ bytes) = byte + 256 * le_number bytes
+
+-- the request of a type
+abbrev pub request_of_type : (type addr count : ℕ) → Option Request
+request_of_type type addr count =
+    if type == 0 then Some (requests.Plug addr count)
+    else if type == 1 then Some (requests.Unplug addr count)
+    else if type == 2 then Some requests.UnplugAll
+    else if type == 3 then Some (requests.State addr count)
+    else None
+
+-- the request that bytes are: type (2 bytes), padding (6), address (8), number of blocks (2), padding (6)
+abbrev pub request_in : List ℕ → Option Request
+request_in bytes =
+    if length bytes == 24
+    then request_of_type (le_number (take 2 bytes)) (le_number (take 8 (drop 8 bytes))) (le_number (take 2 (drop 16 bytes)))
+    else None
+
+-- a device: its plugged blocks, rising, the bytes that the host asks for, and whether a migration is active
+pub record DeviceState : Type 0 where
+  pub plugged : List ℕ
+  pub requested : ℕ
+  pub migrating : Bool
+
+-- the block that begins at an address
+abbrev pub block_at : Sizes → (addr : ℕ) → ℕ
+block_at s addr = (addr - address s 0) / block_bytes s
+
+-- a range begins at a block, has one at least, and all its blocks are in the region
+abbrev pub is_good_range : Sizes → (addr count : ℕ) → Bool
+is_good_range s addr count =
+    nat_le (address s 0) addr && (addr - address s 0) % block_bytes s == 0 && not (count == 0) && nat_le (block_at s addr + count) s.managed
+
+-- whether each block of a range is plugged, or none is
+abbrev pub are_plugged : List ℕ → (first n : ℕ) → Bool
+are_plugged plugged first n = list_all (λ b. is_in b plugged) (range_with_len first n)
+
+abbrev pub are_unplugged : List ℕ → (first n : ℕ) → Bool
+are_unplugged plugged first n = list_all (λ b. not (is_in b plugged)) (range_with_len first n)
+
+-- the state of a range: plugged 0, unplugged 1, mixed 2
+abbrev pub range_state : List ℕ → (first n : ℕ) → ℕ
+range_state plugged first n = if are_plugged plugged first n then 0 else if are_unplugged plugged first n then 1 else 2
+
+-- The causes in their order. `refused` says whether a listener refused a PLUG, or the backing failed to
+-- discard, in this request; it counts only where it is asked for.
+abbrev pub plug_answer : Sizes → DeviceState → (refused : Bool) → (addr count : ℕ) → Response
+plug_answer s d refused addr count =
+    if not (is_good_range s addr count) then Error
+    else if nat_lt d.requested ((length d.plugged + count) * block_bytes s) then Nack
+    else if not (are_unplugged d.plugged (block_at s addr) count) then Error
+    else if d.migrating || refused then Busy
+    else Ack 0
+
+abbrev pub unplug_answer : Sizes → DeviceState → (refused : Bool) → (addr count : ℕ) → Response
+unplug_answer s d refused addr count =
+    if not (is_good_range s addr count) then Error
+    else if not (are_plugged d.plugged (block_at s addr) count) then Error
+    else if d.migrating || refused then Busy
+    else Ack 0
+
+abbrev pub unplug_all_answer : DeviceState → (refused : Bool) → Response
+unplug_all_answer d refused =
+    if length d.plugged == 0 then Ack 0
+    else if d.migrating || refused then Busy
+    else Ack 0
+
+abbrev pub state_answer : Sizes → DeviceState → (addr count : ℕ) → Response
+state_answer s d addr count =
+    if not (is_good_range s addr count) then Error else Ack (range_state d.plugged (block_at s addr) count)
+
+-- what a device answers; what isn't a request is answered Error
+abbrev pub device_answer : Sizes → DeviceState → (refused : Bool) → Option Request → Response
+device_answer s d refused None = Error
+device_answer s d refused (Some (requests.Plug addr count)) = plug_answer s d refused addr count
+device_answer s d refused (Some (requests.Unplug addr count)) = unplug_answer s d refused addr count
+device_answer s d refused (Some requests.UnplugAll) = unplug_all_answer d refused
+device_answer s d refused (Some (requests.State addr count)) = state_answer s d addr count
+
+-- the plugged blocks behind an acknowledged request
+abbrev pub plugged_after : Sizes → List ℕ → Option Request → List ℕ
+plugged_after s plugged None = plugged
+plugged_after s plugged (Some (requests.Plug addr count)) = with_range (block_at s addr) count s.managed plugged
+plugged_after s plugged (Some (requests.Unplug addr count)) = without_range (block_at s addr) count s.managed plugged
+plugged_after s plugged (Some requests.UnplugAll) = []
+plugged_after s plugged (Some (requests.State addr count)) = plugged
+
+abbrev pub after_answer : Sizes → DeviceState → Option Request → Response → DeviceState
+after_answer s d request (Ack state) = record d { plugged = plugged_after s d.plugged request }
+after_answer s d request Nack = d
+after_answer s d request Busy = d
+after_answer s d request Error = d
+
+-- the device behind an action: its plugged blocks are what the acknowledged requests leave
+abbrev pub after_act : Sizes → DeviceState → DeviceAct → DeviceState
+after_act s d (acts.Requested size) = record d { requested = size }
+after_act s d (acts.Request bytes response) = after_answer s d (request_in bytes) response
+after_act s d (acts.Join key) = d
+after_act s d acts.JoinRefused = d
+after_act s d (acts.Leave key) = d
+after_act s d acts.Begin = record d { migrating = true }
+after_act s d acts.Cancel = record d { migrating = false }
+after_act s d acts.Finish = record d { migrating = false }
+
+-- the device behind a journal
+abbrev pub device_after : Sizes → DeviceState → List DeviceAction → DeviceState
+device_after s d [] = d
+device_after s d (a ∷ actions) = device_after s (after_act s d a.act) actions
+
+-- the device at the start: the lowest blocks are plugged, and the host asks for as much
+abbrev pub device_at_start : Sizes → DeviceState
+device_at_start s =
+    record { plugged = range_with_len 0 s.plugged; requested = s.plugged * block_bytes s; migrating = false }
