@@ -64,7 +64,7 @@ from_runs s online st who =
     let run : ℕ → Option Leased = λ order. from_run st.caches who order (chosen_run s online (free_frames s st) order Movable) in
     option_or (run 2) (option_or (run 1) (run 0))
 
--- a space whose caches have lost the frames of blocks that take a kind
+-- a space whose caches are without the frames of blocks that take a kind
 abbrev pub drained : Sizes → (online kind : Kind) → SpaceState → SpaceState
 drained s online kind st = record st { caches = map (filter (λ frame. not (fits s online kind frame))) st.caches }
 

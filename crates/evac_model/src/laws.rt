@@ -15,6 +15,7 @@ ghost use Rattle.evac_model.specs.Answer.{answer};
 ghost use Rattle.evac_model.specs.Calls.{IsCallFor};
 ghost use Rattle.evac_model.specs.History.{answer_in, after_entry, after_entries, IsLegal};
 ghost use Rattle.evac_model.specs.Laws.{AsksForFrame, IsRefusal};
+ghost use Rattle.evac_model.specs.Examples.{RunsOfSmall, LeasesOfSmall, AnswersOfSmall};
 
 /// A refused lease counts for a call that asks for a frame alone: any other call has one answer.
 pub fn lease_counts_for_alloc_alone()
@@ -50,4 +51,19 @@ pub fn numbers_that_pass()
 /// `is_in` says whether a number is one of a list's.
 pub fn is_in_contains()
     ensures { (xs : List ℕ) (b : ℕ) → (is_in b xs ≡ true) ↔ Contains xs b }
+{}
+
+/// The free runs of a small machine, worked out by hand, and which are chosen.
+pub fn runs_of_a_small_machine()
+    ensures { RunsOfSmall }
+{}
+
+/// The caches and the free frames behind a journal, worked out by hand.
+pub fn leases_of_a_small_machine()
+    ensures { LeasesOfSmall }
+{}
+
+/// The answers of a small machine's device to requests at each edge, worked out by hand.
+pub fn answers_of_a_small_machine()
+    ensures { AnswersOfSmall }
 {}

@@ -2,7 +2,7 @@
 
 use std::marker::Model;
 
-/// At most 64 bytes, kept in a fixed array, so that an action of the device's journal can be copied.
+/// At most 64 bytes, kept in a fixed array, so that what a device did can be copied without memory.
 /// Contracts see the list of them.
 #[derive(Clone, Copy, Debug, PartialEq, Eq)]
 pub struct RequestBytes {
@@ -28,9 +28,6 @@ impl Model for RequestBytes {
 
 impl RequestBytes {
     ghost use Rattle.std.specs.Prelude.{◌≡◌, ◌<◌, ◌≤◌, [], ◌∷◌, ◌++◌, length};
-
-    /// The most bytes that are kept.
-    pub const MOST: usize = 64;
 
     /// No bytes.
     fn new() -> RequestBytes

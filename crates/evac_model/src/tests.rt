@@ -9,9 +9,22 @@ use crate::list::Listed;
 use crate::names::{BlockNo, FrameNo, Kind, PageNo};
 use crate::plain::Plain;
 use crate::reply::Reply;
+use crate::request_bytes::RequestBytes;
 use crate::scenario::StartPage;
 use std::process::Abort;
 use std::test::Fail;
+
+// The longest bytes that are kept, a request's and none.
+#[test]
+fn bytes_of_requests(rt: HostRuntime) {
+    let longest = [7; 64];
+    assert!(rt; RequestBytes::from_slice(&longest).as_slice() == longest.as_slice());
+    let request = [
+        1, 0, 0, 0, 0, 0, 0, 0, 128, 0, 0, 0, 0, 0, 0, 0, 1, 0, 0, 0, 0, 0, 0, 9,
+    ];
+    assert!(rt; RequestBytes::from_slice(&request).as_slice() == request.as_slice());
+    assert!(rt; RequestBytes::from_slice(&[]).as_slice().is_empty());
+}
 
 #[test]
 fn limits_of_a_geometry(rt: HostRuntime) {
