@@ -1,0 +1,9 @@
+pub mod FreeFrames
+pub mod FreeFramesCode
+pub mod Parts
+pub mod TreeInside
+pub mod TreeNode
+pub mod TreeFalls
+pub mod Choice
+pub mod Laws
+pub mod RunsInside
