@@ -1,0 +1,4 @@
+pub mod Members
+pub mod Givings
+pub mod Fronts
+pub mod Fewer
