@@ -27,14 +27,15 @@ use Rattle.core_state.specs.Pages.{page_cells, Flagged, Shows, FreeShows}
 use Rattle.core_state.specs.Frames.{all_entry_words, times_mapped}
 use Rattle.core_state.specs.Image.{copy_of}
 use Rattle.core_state.specs.Opens.{IsNew, Opens}
-use Rattle.core_state.specs.CoreOpens.{start_pages, opening_of, opening_words, frames_there, fresh_frame, empty_places, fresh_places, free_hand, unplugged_hand, new_view, driver_view, owner_view, owner_views, new_scan, scanner_view, keeper_view, keeper_views, opening_views}
+use Rattle.core_state.specs.CoreOpens.{start_pages, opening_of, opening_words, frames_there, fresh_frame, empty_places, fresh_places, free_hand, unplugged_hand, new_view, driver_view, owner_view, owner_views, new_scan, scanner_view, keeper_view, keeper_views, opening_views, spare_at_start}
+use Rattle.core_state.specs.Steps.{nothing_known}
 use Rattle.core_state.proofs.Lists.{sum_by_replaced}
 use Rattle.core_state.proofs.EntryWords.{Fits, taken_bit-packed, moving_bit-packed, mapped_bit-packed, unmovable_bit-packed, pins_of-packed, frame_of-packed, bound_of-packed}
 use Rattle.core_state.proofs.WordsAt.{next_ticket-entry, cells_of_frame-before, entry_word-here, entry_word-other}
 use Rattle.core_state.proofs.Cells.{at_entry, all_entry_words-set}
 use Rattle.core_state.proofs.Frames.{maps_to-one}
 use Rattle.core_state.proofs.StepPlaces.{row_within}
-use Rattle.core_state.proofs.Starts.{length-start_pages, length-opening_words, length-free_hand, length-unplugged_hand, there_within, frame_within}
+use Rattle.core_state.proofs.Starts.{length-start_pages, length-opening_words, length-free_hand, length-unplugged_hand, length-spare_at_start, there_within, frame_within}
 
 -- ---- the word of a start page
 
@@ -231,6 +232,21 @@ module _ (s : Sizes) (w : IsWithinLimits s) where
 
     in_hands : (f : ℕ) → times_in_hands f (opening_views s start budgets) ≡ at_hand f (free_hand s start) + at_hand f (unplugged_hand s)
     in_hands f = let a = sum_views (λ v. times_in_hand f v) in let b = no_frame f 1 budgets in let c = at_empty (frame_count s) f in omega arith
+
+    -- a start page's frame has places for its cells
+    spare_low : (ps : List StartPage) (f : ℕ) → AllByRecursion (IsStartPage s) ps → f < frames_there s → at_hand f (free_hand s ps) ≡ 0 → get_or (spare_at_start s ps) f None ≡ Some (nothing_known s.cells)
+    spare_low [] f each lt none = absurd (let a = at_hand_fresh f (free_hand s []) (there_low [] f lt tt) in omega arith)
+    spare_low (p ∷ ps) f each lt none = dite (ℕ_discrete f p.frame.0)
+        (λ e. ap (λ g. get_or (spare_at_start s (p ∷ ps)) g None) e
+        ∙ get_or-set_same (spare_at_start s ps) p.frame.0 (Some (nothing_known s.cells)) None (let a = length-spare_at_start s ps in let b = frame_within s p w each.0 in omega arith))
+        (λ ne. get_or-set_other (spare_at_start s ps) p.frame.0 f (Some (nothing_known s.cells)) None ne
+        ∙ spare_low ps f each.1 lt (sym (ap (λ (m : Option HandFrame). bit_of (is_some m)) (get_or-set_other (free_hand s ps) p.frame.0 f None None ne)) ∙ none))
+
+    -- and so has a frame that is in no hand
+    pub spare_where_free : AreStartPages s start → (f : ℕ) → f < frame_count s → times_in_hands f (opening_views s start budgets) ≡ 0 → get_or (spare_at_start s start) f None ≡ Some (nothing_known s.cells)
+    spare_where_free are f lt none = let a = in_hands f in dite (dec_le (frames_there s) f)
+        (λ le. absurd (let b = unplugged_mid f le lt in omega arith))
+        (λ low. spare_low start f are.each (omega arith) (omega arith))
 
     owners_left : (k : ℕ) (ns : List ℕ) → sum_by (λ v. v.left) (owner_views s k ns) ≡ sum ns
     owners_left k [] = refl

@@ -1,6 +1,6 @@
 -- A sound snapshot's entries, in the order of their tickets, are a legal history, and the words and cells
 -- of pages that nobody holds are the state after it.
-use Rattle.std.proofs.Common.{◌≡◌, ◌≢◌, ℕ, eqb, nat_eq, cond, Bool, true, false, eq-eqb, ne_eqb, zero, suc, ◌+◌, ◌-◌, ◌<◌, ◌≤◌, List, [], ◌∷◌, length, get_or, sym, refl, ap, subst, ◌∙◌, arith, Option, Some, None}
+use Rattle.std.proofs.Common.{◌≡◌, ℕ, eqb, nat_eq, cond, Bool, eq-eqb, ne_eqb, suc, ◌+◌, ◌-◌, ◌<◌, List, [], ◌∷◌, length, sym, refl, ap, subst, ◌∙◌, arith, Some, None}
 use Rattle.std.specs.Cmp.{nat_cmp_total, unsigned_tied}
 use Rattle.std.specs.FinMap.{get-insert, get-remove}
 use Rattle.std.specs.List.{slice_get}
@@ -13,8 +13,8 @@ use Rattle.evac_model.specs.History.{answer_in, after_entry, after_entries, IsLe
 use Rattle.core_state.specs.declared.opening.Opening.{Opening}
 use Rattle.core_state.specs.declared.view.View.{View}
 use Rattle.core_state.specs.Words.{next_ticket_of, entry_word_of}
-use Rattle.core_state.specs.Views.{Has, holds_page, holders}
-use Rattle.core_state.specs.Pages.{entry_with, answer_at, page_after_entry, page_after, page_now, FreeShows, Pages}
+use Rattle.core_state.specs.Views.{holds_page, holders}
+use Rattle.core_state.specs.Pages.{entry_with, answer_at, page_after_entry, page_after, FreeShows, Pages}
 use Rattle.core_state.specs.Sound.{Sound}
 use Rattle.core_state.specs.Histories.{IsOpeningState, IsHistoryOf, AllLetGo}
 use Rattle.core_state.proofs.Lists.{sum_by_none}

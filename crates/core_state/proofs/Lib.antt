@@ -27,6 +27,10 @@ pub mod CoreSteps
 pub mod Starts
 pub mod CoreOpened
 pub mod CoreRooms
+pub mod PassedFrames
+pub mod HandParts
+pub mod RoomMoves
+pub mod MovePlaces
 pub mod AllowedCells
 pub mod AllowedPages
 pub mod AllowedCalls

@@ -1,5 +1,5 @@
 -- The memory that a core keeps ready is enough after each step of a call.
-use Rattle.std.proofs.Common.{◌≡◌, ℕ, eqb, cond, Bool, true, false, ◌+◌, ◌^◌, ◌<◌, ◌≤◌, ◌≢◌, List, [], ◌∷◌, ◌++◌, length, length-set, length-append, get_or, get_or-set_same, get_or-set_other, set, sym, refl, ap, ◌∙◌, subst, ⊎_elim, arith, Option, Some, None}
+use Rattle.std.proofs.Common.{◌≡◌, ℕ, zero, suc, eqb, cond, Bool, true, false, ◌+◌, ◌^◌, ◌<◌, ◌≤◌, ◌≢◌, List, [], ◌∷◌, ◌++◌, length, length-set, length-append, get_or, get_or-set_same, get_or-set_other, set, sym, refl, ap, ◌∙◌, subst, ⊎_elim, arith, Option, Some, None}
 use Rattle.std.specs.Prelude.{IsSomeAnd, is_some}
 use Rattle.std.specs.List.{sum_by, count_by}
 use Rattle.std.proofs.lemmas.List.{length-replicate, get_or_default}
@@ -10,6 +10,7 @@ use Rattle.evac_model.specs.declared.names.FrameNo.{FrameNo}
 use Rattle.evac_model.specs.declared.names.PageNo.{PageNo}
 use Rattle.evac_model.specs.declared.entry.Entry.{Entry}
 use Rattle.evac_words.specs.Word.{taken_bit, bit_of}
+use Rattle.core_state.specs.declared.hand.HandFrame.{HandFrame}
 use Rattle.core_state.specs.declared.held.Held.{Held}
 use Rattle.core_state.specs.declared.keeper.Keeper.TheVariants.{OneOwner}
 use Rattle.core_state.specs.declared.noticed.Notice.{Notice}
@@ -18,15 +19,15 @@ use Rattle.core_state.specs.declared.room.CellRoom.{CellRoom}
 use Rattle.core_state.specs.declared.room.Room.{Room}
 use Rattle.core_state.specs.declared.step.CallDone.{CallDone}
 use Rattle.core_state.specs.declared.view.View.{View}
-use Rattle.core_state.specs.Views.{Has, view_of, spent, right_to, maps_to, times_unmarked}
-use Rattle.core_state.specs.Room.{drawn_for, due_of, nodes_of, cells_for, IsCellRoom, IsHeldRoom, HasRoom}
-use Rattle.core_state.specs.Steps.{MayTake, MayDraw, MayEnd, MayRelease, newly_held, held_after_take, notice_of, entry_of, with_ticket, with_load, with_store, note, after_take, after_draw, after_load, after_store, after_mark, after_release}
-use Rattle.core_state.proofs.Lists.{at_set, sum_by_replaced, member_le_sum_by, within}
+use Rattle.core_state.specs.Views.{Has, view_of, spent, right_to, maps_to, times_unmarked, hand_frame, times_in_hand, times_in_hands}
+use Rattle.core_state.specs.Room.{drawn_for, due_of, nodes_of, cells_for, spare_for, IsCellRoom, IsHeldRoom, HasRoom}
+use Rattle.core_state.specs.Steps.{MayTake, MayDraw, MayEnd, MayRelease, newly_held, held_after_take, notice_of, entry_of, with_ticket, with_load, with_store, with_hand_store, note, after_take, after_draw, after_load, after_store, after_mark, after_release}
+use Rattle.core_state.proofs.Lists.{at_set, sum_by_replaced, sum_by_kept, member_le_sum_by, within}
 use Rattle.core_state.proofs.Holding.{for_some, some_is, drawing, with_ticket-some}
 use Rattle.core_state.proofs.FrameSteps.{count_of-without_other, count_of-without_same, unmarked-store_other}
 
 -- what one step of a seat does to the room, where its view was v and is w
-pub record Balanced (o : Opening) (seat : ℕ) (v w : View) (r s : Room) : Type 0 where
+pub record Balanced (o : Opening) (views : List View) (seat : ℕ) (v w : View) (r s : Room) : Type 0 where
   pub entries : due_of w + length r.entries ≤ due_of v + length s.entries
   pub entries_short : length w.entries + length s.entries ≤ length v.entries + length r.entries
   pub notices : length w.noticed.by_right + length s.notices ≤ length v.noticed.by_right + length r.notices
@@ -38,8 +39,11 @@ pub record Balanced (o : Opening) (seat : ℕ) (v w : View) (r s : Room) : Type 
   pub others : (j : ℕ) → j ≢ seat → cells_for s j ≡ cells_for r j
   pub free : w.held ≡ None → IsSomeAnd (cells_for s seat) (IsCellRoom o.cells)
   pub held : (h : Held) → w.held ≡ Some h → IsHeldRoom o.cells h
+  pub spares : length s.spare ≡ length r.spare
+  pub spare : (f : ℕ) → f < o.frames → times_in_hands f (set views seat w) ≡ 0 → IsSomeAnd (spare_for s f) (λ known. length known ≡ o.cells)
+  pub in_hand : (f : ℕ) (x : HandFrame) → hand_frame w f ≡ Some x → length x.stores ≡ o.cells
 
-pub room-kept : (o : Opening) (views : List View) (seat : ℕ) (v w : View) (r s : Room) → Has views seat v → HasRoom o views r → Balanced o seat v w r s → HasRoom o (set views seat w) s
+pub room-kept : (o : Opening) (views : List View) (seat : ℕ) (v w : View) (r s : Room) → Has views seat v → HasRoom o views r → Balanced o views seat v w r s → HasRoom o (set views seat w) s
 room-kept o views seat v w r s at k b = record {
   small = k.small;
   entries = (let x = sum_by_replaced due_of views seat v w at in let y = k.entries in let z = b.entries in omega arith);
@@ -57,6 +61,12 @@ room-kept o views seat v w r s at k b = record {
   held = λ j u h has is. ⊎_elim
       (λ q. b.held h (ap (λ (x : View). x.held) q.1 ∙ is))
       (λ q. k.held j u h q.1 is)
+      (at_set views seat j w u has);
+  spares = b.spares ∙ k.spares;
+  spare = b.spare;
+  in_hand = λ j u f x has is. ⊎_elim
+      (λ q. b.in_hand f x (ap (λ (y : View). hand_frame y f) q.1 ∙ is))
+      (λ q. k.in_hand j u f x q.1 is)
       (at_set views seat j w u has);
 }
 
@@ -121,7 +131,40 @@ drawn_for-store (Some h) frame cell x = by_bit (eqb (maps_to frame h.word) 1) wh
   by_bit true = refl
   by_bit false = refl
 
+-- ---- the hand before and after, each frame in its place
+
+pub record SameHand (m n : List (Option HandFrame)) : Type 0 where
+  pub times : (f : ℕ) → bit_of (is_some (get_or n f None)) ≡ bit_of (is_some (get_or m f None))
+  pub stores : (f : ℕ) (y : HandFrame) → get_or n f None ≡ Some y → (x : HandFrame) × (get_or m f None ≡ Some x) × (length y.stores ≡ length x.stores)
+
+pub same_hand : (m n : List (Option HandFrame)) → n ≡ m → SameHand m n
+same_hand m n e = subst (λ (l : List (Option HandFrame)). SameHand m l) (sym e) (record { times = λ f. refl; stores = λ f y is. (y, is, refl) })
+
+times-store : (l : List (Option HandFrame)) (i cell x f : ℕ) → bit_of (is_some (get_or (set l i (with_hand_store (get_or l i None) cell x)) f None)) ≡ bit_of (is_some (get_or l f None))
+times-store [] i cell x f = refl
+times-store (None ∷ l) zero cell x zero = refl
+times-store (Some y ∷ l) zero cell x zero = refl
+times-store (m ∷ l) zero cell x (suc f) = refl
+times-store (m ∷ l) (suc i) cell x zero = refl
+times-store (m ∷ l) (suc i) cell x (suc f) = times-store l i cell x f
+
+stores-store : (l : List (Option HandFrame)) (i cell x f : ℕ) (z : HandFrame) → get_or (set l i (with_hand_store (get_or l i None) cell x)) f None ≡ Some z
+    → (y : HandFrame) × (get_or l f None ≡ Some y) × (length z.stores ≡ length y.stores)
+stores-store [] i cell x f z is = absurd (none-some z is)
+stores-store (None ∷ l) zero cell x zero z is = absurd (none-some z is)
+stores-store (Some y ∷ l) zero cell x zero z is = (y, refl, ap (λ (q : HandFrame). length q.stores) (sym (same_Some (record y { stores = set y.stores cell (Some x) }) z is)) ∙ length-set y.stores cell (Some x))
+stores-store (m ∷ l) zero cell x (suc f) z is = (z, is, refl)
+stores-store (m ∷ l) (suc i) cell x zero z is = (z, is, refl)
+stores-store (m ∷ l) (suc i) cell x (suc f) z is = stores-store l i cell x f z is
+
 module _ (o : Opening) (views : List View) (seat : ℕ) (v : View) (r : Room) (at : Has views seat v) (k : HasRoom o views r) where
+  -- a step that leaves each frame in hand in its place
+  same_spare : (w : View) → SameHand v.hand w.hand → (f : ℕ) → f < o.frames → times_in_hands f (set views seat w) ≡ 0 → IsSomeAnd (spare_for r f) (λ known. length known ≡ o.cells)
+  same_spare w same f lt none = k.spare f lt (sym (sum_by_kept (λ (u : View). times_in_hand f u) views seat v w at (same.times f)) ∙ none)
+
+  same_stores : (w : View) → SameHand v.hand w.hand → (f : ℕ) (x : HandFrame) → hand_frame w f ≡ Some x → length x.stores ≡ o.cells
+  same_stores w same f x is = let q = same.stores f x is in q.2 ∙ k.in_hand seat v f q.0 at q.1
+
   -- a step that leaves what is held in its places
   same_free : (w : View) → SameRoom v.held w.held → w.held ≡ None → IsSomeAnd (cells_for r seat) (IsCellRoom o.cells)
   same_free w same none = k.free seat v at (same.free none)
@@ -130,8 +173,8 @@ module _ (o : Opening) (views : List View) (seat : ℕ) (v : View) (r : Room) (a
   same_held w same h is = let q = same.held h is in let p = k.held seat v q.0 at q.1 in record { loads = q.2 ∙ p.loads; stores = q.3 ∙ p.stores }
 
   -- a step that changes what is held, in its places, and maybe the tickets
-  quiet : (w : View) → due_of w ≤ due_of v → w.entries ≡ v.entries → w.noticed ≡ v.noticed → w.unmarked ≡ v.unmarked → SameRoom v.held w.held → Balanced o seat v w r r
-  quiet w due entries noticed marks same = record {
+  quiet : (w : View) → due_of w ≤ due_of v → w.entries ≡ v.entries → w.noticed ≡ v.noticed → w.unmarked ≡ v.unmarked → w.hand ≡ v.hand → SameRoom v.held w.held → Balanced o views seat v w r r
+  quiet w due entries noticed marks hand same = record {
     entries = omega arith;
     entries_short = (let a = ap (λ (l : List Entry). length l) entries in omega arith);
     notices = (let a = ap (λ n. length n.by_right) noticed in omega arith);
@@ -143,6 +186,9 @@ module _ (o : Opening) (views : List View) (seat : ℕ) (v : View) (r : Room) (a
     others = λ j ne. refl;
     free = same_free w same;
     held = same_held w same;
+    spares = refl;
+    spare = same_spare w (same_hand v.hand w.hand hand);
+    in_hand = same_stores w (same_hand v.hand w.hand hand);
   }
 
   pub room-draw : (t : ℕ) → MayDraw v → HasRoom o (set views seat (after_draw v t)) r
@@ -150,11 +196,11 @@ module _ (o : Opening) (views : List View) (seat : ℕ) (v : View) (r : Room) (a
       let a : drawn_for v.held ≡ 0 = ap (λ m. drawn_for m) d.1.holds ∙ ap (λ (m : Option ℕ). bit_of (is_some m)) d.1.undrawn in
       let b : drawn_for (with_ticket v.held t) ≡ 1 = ap (λ m. drawn_for m) (with_ticket-some v.held d.0 t d.1.holds) in
       let c = d.1.leave in
-      room-kept o views seat v (after_draw v t) r r at k (quiet (after_draw v t) (omega arith) refl refl refl (same_room-ticket v.held t))
+      room-kept o views seat v (after_draw v t) r r at k (quiet (after_draw v t) (omega arith) refl refl refl refl (same_room-ticket v.held t))
 
   pub room-load : (cell x : ℕ) → HasRoom o (set views seat (after_load v cell x)) r
   room-load cell x = room-kept o views seat v (after_load v cell x) r r at k
-      (quiet (after_load v cell x) (let a = drawn_for-load v.held cell x in omega arith) refl refl refl (same_room-load v.held cell x))
+      (quiet (after_load v cell x) (let a = drawn_for-load v.held cell x in omega arith) refl refl refl refl (same_room-load v.held cell x))
 
   -- ---- take
 
@@ -198,6 +244,9 @@ module _ (o : Opening) (views : List View) (seat : ℕ) (v : View) (r : Room) (a
             (sym (get_or-set_same r.cells seat new None in_cells ∙ kept none ∙ lent ∙ get_or_default r.cells seat old None in_cells))
             (k.free seat v at may.holds_none);
         held = λ h holds. take_held page found may.seated.cells h (sym (ap (λ (x : View). x.held) is) ∙ holds);
+        spares = refl;
+        spare = same_spare w (same_hand v.hand w.hand (ap (λ (x : View). x.hand) is));
+        in_hand = same_stores w (same_hand v.hand w.hand (ap (λ (x : View). x.hand) is));
       }) where
         in_cells : seat < length r.cells
         in_cells = let a = within views seat v at in let b = k.seats in omega arith
@@ -225,9 +274,9 @@ module _ (o : Opening) (views : List View) (seat : ℕ) (v : View) (r : Room) (a
       → length new + times_unmarked f w ≡ length node + times_unmarked f v
       → ((g : ℕ) → g ≢ f → times_unmarked g w ≡ times_unmarked g v)
       → length new + length w.unmarked ≡ length node + length v.unmarked
-      → due_of w ≤ due_of v → w.entries ≡ v.entries → w.noticed ≡ v.noticed → SameRoom v.held w.held
+      → due_of w ≤ due_of v → w.entries ≡ v.entries → w.noticed ≡ v.noticed → SameHand v.hand w.hand → SameRoom v.held w.held
       → HasRoom o (set views seat w) (record r { unmarked = set r.unmarked f new })
-  marking f node new w lt lent same other all due entries noticed room =
+  marking f node new w lt lent same other all due entries noticed hand room =
       room-kept o views seat v w r (record r { unmarked = set r.unmarked f new }) at k (record {
         entries = omega arith;
         entries_short = (let a = ap (λ (l : List Entry). length l) entries in omega arith);
@@ -240,6 +289,9 @@ module _ (o : Opening) (views : List View) (seat : ℕ) (v : View) (r : Room) (a
         others = λ j ne. refl;
         free = same_free w room;
         held = same_held w room;
+        spares = refl;
+        spare = same_spare w hand;
+        in_hand = same_stores w hand;
       })
 
   pub room-store : (frame : FrameNo) (cell x : ℕ) (node new : List FrameNo) (w : View) → frame.0 < o.frames → node ≡ get_or r.unmarked frame.0 node
@@ -254,6 +306,7 @@ module _ (o : Opening) (views : List View) (seat : ℕ) (v : View) (r : Room) (a
       (let a = ap due_of is in let b = drawn_for-store v.held frame.0 cell x in omega arith)
       (ap (λ (y : View). y.entries) is)
       (ap (λ (y : View). y.noticed) is)
+      (subst (λ (l : List (Option HandFrame)). SameHand v.hand l) (sym (ap (λ (y : View). y.hand) is)) (record { times = times-store v.hand frame.0 cell x; stores = stores-store v.hand frame.0 cell x }))
       (subst (λ (m : Option Held). SameRoom v.held m) (sym (ap (λ (y : View). y.held) is)) (same_room-store v.held frame.0 cell x))
 
   pub room-mark : (frame : FrameNo) (node new : List FrameNo) (w : View) → frame.0 < o.frames → node ≡ get_or r.unmarked frame.0 node
@@ -269,6 +322,7 @@ module _ (o : Opening) (views : List View) (seat : ℕ) (v : View) (r : Room) (a
       (let a = ap due_of is in omega arith)
       (ap (λ (y : View). y.entries) is)
       (ap (λ (y : View). y.noticed) is)
+      (same_hand v.hand w.hand (ap (λ (y : View). y.hand) is))
       (subst (λ (m : Option Held). SameRoom v.held m) (sym (ap (λ (y : View). y.held) is)) (record { free = λ e. e; held = λ h e. (h, e, refl, refl) }))
 
   -- ---- release
@@ -282,9 +336,9 @@ module _ (o : Opening) (views : List View) (seat : ℕ) (v : View) (r : Room) (a
   released_due (Some d) left new old may sum = let a = due_drawn d may.1 in
       let b = length-append v.entries (entry_of v d ∷ []) in omega arith
 
-  released_same : (done : Option CallDone) → (after_release v done).held ≡ None × ((after_release v done).noticed ≡ v.noticed) × ((after_release v done).unmarked ≡ v.unmarked)
-  released_same None = (refl, refl, refl)
-  released_same (Some d) = (refl, refl, refl)
+  released_same : (done : Option CallDone) → (after_release v done).held ≡ None × ((after_release v done).noticed ≡ v.noticed) × ((after_release v done).unmarked ≡ v.unmarked) × ((after_release v done).hand ≡ v.hand)
+  released_same None = (refl, refl, refl, refl)
+  released_same (Some d) = (refl, refl, refl, refl)
 
   pub room-release : (done : Option CallDone) (w : View) (entries : List Entry) (cells : Option CellRoom) → MayRelease o v done
       → w ≡ after_release v done
@@ -308,4 +362,7 @@ module _ (o : Opening) (views : List View) (seat : ℕ) (v : View) (r : Room) (a
             (sym (get_or-set_same r.cells seat cells None (let a = within views seat v at in let b = k.seats in omega arith) ∙ q.2))
             (record { loads = p.loads; stores = p.stores });
         held = λ h holds. absurd (none-some h (sym (ap (λ (y : View). y.held) is ∙ same.0) ∙ holds));
+        spares = refl;
+        spare = same_spare w (same_hand v.hand w.hand (ap (λ (y : View). y.hand) is ∙ same.3));
+        in_hand = same_stores w (same_hand v.hand w.hand (ap (λ (y : View). y.hand) is ∙ same.3));
       })

@@ -10,7 +10,8 @@ use Rattle.evac_words.specs.Table.{entry_index, table_length}
 use Rattle.core_state.specs.declared.hand.HandFrame.{HandFrame}
 use Rattle.core_state.specs.declared.view.View.{View}
 use Rattle.core_state.specs.Words.{mapped_word}
-use Rattle.core_state.specs.CoreOpens.{start_pages, opening_words, frames_there, fresh_frame, empty_places, fresh_places, free_hand, unplugged_hand, owner_view, owner_views}
+use Rattle.core_state.specs.CoreOpens.{start_pages, opening_words, frames_there, fresh_frame, empty_places, fresh_places, free_hand, unplugged_hand, owner_view, owner_views, spare_at_start}
+use Rattle.core_state.specs.Steps.{nothing_known}
 
 pub length-start_pages : (s : Sizes) (ps : List StartPage) → length (start_pages s ps) ≡ s.pages
 length-start_pages s [] = length-replicate s.pages None
@@ -37,6 +38,10 @@ length-free_hand s [] w =
     let c = length-replicate {A = Option HandFrame} (frame_count s - frames_there s) None in
     let d = there_within s w in omega arith
 length-free_hand s (p ∷ ps) w = length-set (free_hand s ps) p.frame.0 None ∙ length-free_hand s ps w
+
+pub length-spare_at_start : (s : Sizes) (ps : List StartPage) → length (spare_at_start s ps) ≡ frame_count s
+length-spare_at_start s [] = length-replicate (frame_count s) None
+length-spare_at_start s (p ∷ ps) = length-set (spare_at_start s ps) p.frame.0 (Some (nothing_known s.cells)) ∙ length-spare_at_start s ps
 
 -- a start page, read at its place
 pub start_at : (s : Sizes) (ps : List StartPage) (i : ℕ) (d : StartPage) → AreStartPages s ps → i < length ps → IsStartPage s (get_or ps i d)
@@ -73,4 +78,11 @@ start_page_within s ps i j n d pages are lt is size =
     let a = (start_at s ps i d are lt).page in
     let b = length-start_pages s (drop j ps) in
     let e = ap (λ (l : List Page). length l) is in
+    omega arith
+
+pub start_frame_within : (s : Sizes) (ps : List StartPage) (i j n : ℕ) (d : StartPage) (spare : List (Option (List (Option ℕ)))) → IsWithinLimits s → AreStartPages s ps → i < length ps → spare ≡ spare_at_start s (drop j ps) → length spare ≡ n → (get_or ps i d).frame.0 < n
+start_frame_within s ps i j n d spare w are lt is size =
+    let a = frame_within s (get_or ps i d) w (start_at s ps i d are lt) in
+    let b = length-spare_at_start s (drop j ps) in
+    let e = ap (λ (l : List (Option (List (Option ℕ)))). length l) is in
     omega arith

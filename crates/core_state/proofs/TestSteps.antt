@@ -1,5 +1,7 @@
 -- A core whose words and views are known step by step.
-use Rattle.std.proofs.Common.{◌≡◌, ℕ, ◌+◌, ◌<◌, ◌≤◌, List, [], ◌∷◌, length, refl, sym, ap, ◌∙◌, subst, inl, inr, lit<, arith, Some, None}
+use Rattle.std.proofs.Common.{◌≡◌, ℕ, ◌+◌, ◌<◌, ◌≤◌, List, [], ◌∷◌, length, refl, sym, ap, ◌∙◌, subst, inl, inr, lit<, lit≤, arith, Some, None, IsSome}
+use mathlib.Core.Logic.{dite}
+use native.Mathlib.Decide.{ℕ_discrete}
 use Rattle.std.specs.List.{IsDistinct}
 use Rattle.evac_model.specs.declared.names.FrameNo.{FrameNo}
 use Rattle.evac_model.specs.declared.names.Kind.TheVariants.{Movable}
@@ -15,11 +17,15 @@ use Rattle.core_state.specs.declared.keeper.Keeper.TheVariants.{OneOwner}
 use Rattle.core_state.specs.declared.opening.Opening.{Opening}
 use Rattle.core_state.specs.declared.snapshot.Snapshot.{Snapshot}
 use Rattle.core_state.specs.declared.step.CallDone.{CallDone}
+use Rattle.core_state.specs.declared.step.MoveStep.{MoveStep}
+use Rattle.core_state.specs.declared.step.MoveStep.TheVariants.{Unmap}
 use Rattle.core_state.specs.declared.step.Step.{Step}
-use Rattle.core_state.specs.Views.{view_of}
+use Rattle.core_state.specs.Views.{view_of, hand_frame}
 use Rattle.core_state.specs.Pages.{patched, with_stores, Answered}
 use Rattle.core_state.specs.Steps.{Allowed, newly_held}
-use Rattle.core_state.specs.Stepped.{snapshot_after}
+use Rattle.core_state.specs.MoveSteps.{AllowedMove}
+use Rattle.core_state.specs.HandOvers.{MayHandOver}
+use Rattle.core_state.specs.Stepped.{snapshot_after, snapshot_after_move}
 use Rattle.core_state.specs.CoreState.{CoreState, IsSound, notices_of}
 use Rattle.core_state.specs.CoreOpens.{opening_of, opening_words, opening_views}
 
@@ -228,3 +234,40 @@ may11 = inr refl
 
 abbrev pub s11 : Snapshot
 s11 = snapshot_after OneOwner o s10 1 step11
+
+-- owner unmaps
+pub may12 : AllowedMove OneOwner o (view_of s11.views 1) Unmap
+may12 = (record { cells = refl; hand = refl; image = tt }, record { drawn = refl; mapped = refl; no_pins = refl })
+
+abbrev pub s12 : Snapshot
+s12 = snapshot_after_move OneOwner s11 1 Unmap
+
+-- frames 2 and 3 are handed over
+free_frames : (f : ℕ) → 2 ≤ f → f < 4 → IsSome (hand_frame (view_of s12.views 4) f)
+free_frames f low high = dite (ℕ_discrete f 2)
+    (λ e. subst (λ n. IsSome (hand_frame (view_of s12.views 4) n)) (sym e) refl)
+    (λ ne. let e : f ≡ 3 = omega arith in subst (λ n. IsSome (hand_frame (view_of s12.views 4) n)) (sym e) refl)
+
+pub may13 : MayHandOver o (view_of s12.views 4) (view_of s12.views 5) 2 2
+may13 = record {
+  giver_rests = record { seated = record { cells = refl; hand = refl; image = tt }; holds_none = refl; all_marked = refl };
+  receiver_rests = record { seated = record { cells = refl; hand = refl; image = tt }; holds_none = refl; all_marked = refl };
+  in_range = lit≤ tt;
+  in_hand = λ f low high. free_frames f low (omega arith);
+}
+
+pub move_now : (a : CoreState) (n : Opening) (s : Snapshot) (seat : ℕ) (step : MoveStep) → IsNow a n s → AllowedMove OneOwner n (view_of s.views seat) step → AllowedMove OneOwner a.opening (view_of a.snapshot.views seat) step
+move_now a n s seat step is may =
+    subst (λ (q : Opening). AllowedMove OneOwner q (view_of a.snapshot.views seat) step) (sym is.opening)
+    (subst (λ (t : Snapshot). AllowedMove OneOwner n (view_of t.views seat) step) (sym is.snapshot) may)
+
+pub moved_now : (a b : CoreState) (n : Opening) (s : Snapshot) (seat : ℕ) (step : MoveStep) → IsNow a n s → b.opening ≡ a.opening → b.snapshot ≡ snapshot_after_move OneOwner a.snapshot seat step → IsNow b n (snapshot_after_move OneOwner s seat step)
+moved_now a b n s seat step now same is = record {
+  opening = same ∙ now.opening;
+  snapshot = is ∙ ap (λ (t : Snapshot). snapshot_after_move OneOwner t seat step) now.snapshot;
+}
+
+pub hand_over_now : (a : CoreState) (n : Opening) (s : Snapshot) (from to first count : ℕ) → IsNow a n s → MayHandOver n (view_of s.views from) (view_of s.views to) first count → MayHandOver a.opening (view_of a.snapshot.views from) (view_of a.snapshot.views to) first count
+hand_over_now a n s from to first count is may =
+    subst (λ (q : Opening). MayHandOver q (view_of a.snapshot.views from) (view_of a.snapshot.views to) first count) (sym is.opening)
+    (subst (λ (t : Snapshot). MayHandOver n (view_of t.views from) (view_of t.views to) first count) (sym is.snapshot) may)

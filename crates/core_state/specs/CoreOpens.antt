@@ -107,3 +107,8 @@ unused_node = record { 0 = 0 } ∷ []
 -- places for cells that no seat uses
 abbrev pub unused_cells : ℕ → CellRoom
 unused_cells cells = record { loads = nothing_known cells; stores = nothing_known cells }
+
+-- places for the cells of each frame that a start page has, and no places for the others
+abbrev pub spare_at_start : Sizes → List StartPage → List (Option (List (Option ℕ)))
+spare_at_start s [] = replicate (frame_count s) None
+spare_at_start s (p ∷ ps) = slice_set (spare_at_start s ps) p.frame.0 (Some (nothing_known s.cells))

@@ -1,5 +1,5 @@
 -- The history that entries make in the order of their tickets.
-use Rattle.std.specs.Prelude.{◌≡◌, ℕ, ◌+◌, ◌<◌, List, length, slice_get, slice_index_or, Some, None}
+use Rattle.std.specs.Prelude.{◌≡◌, ℕ, ◌+◌, List, length, slice_get, slice_index_or, Some, None}
 use Rattle.evac_model.specs.declared.entry.Entry.{Entry}
 use Rattle.evac_model.specs.State.{PlainState, page_at}
 use Rattle.core_state.specs.declared.opening.Opening.{Opening}

@@ -10,6 +10,7 @@ pub mod Histories
 pub mod Opens
 pub mod Steps
 pub mod MoveSteps
+pub mod HandOvers
 pub mod ScanSteps
 pub mod Stepped
 pub mod Room

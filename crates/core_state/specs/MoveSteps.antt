@@ -62,8 +62,8 @@ known_cell h cell = or_known (slice_index_or h.stores cell None) (slice_index_or
 abbrev pub IsCopied : Opening → Held → HandFrame → Type 0
 IsCopied o h x = (cell : ℕ) → cell < o.cells → (value : ℕ) × (known_cell h cell ≡ Some value) × (slice_index_or x.stores cell None ≡ Some value)
 
--- The page is moving; a frame in hand, not unmarked, has the value of each cell, all loaded since the
--- move began.
+-- The page is moving; a frame in hand, not unmarked, has the value of each cell, which was loaded since
+-- the move began, or stored by the holder since the take.
 pub record MayRemap (k : Keeper) (o : Opening) (h : Held) (x : HandFrame) : Type 0 where
   pub moving : moving_bit h.word ≡ 1
   pub copied : IsCopied o h x

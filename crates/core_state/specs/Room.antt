@@ -4,12 +4,13 @@ use Rattle.std.specs.Prelude.{IsSomeAnd}
 use Rattle.std.specs.List.{sum_by}
 use Rattle.evac_model.specs.declared.names.FrameNo.{FrameNo}
 use Rattle.evac_words.specs.Word.{bit_of}
+use Rattle.core_state.specs.declared.hand.HandFrame.{HandFrame}
 use Rattle.core_state.specs.declared.held.Held.{Held}
 use Rattle.core_state.specs.declared.opening.Opening.{Opening}
 use Rattle.core_state.specs.declared.room.CellRoom.{CellRoom}
 use Rattle.core_state.specs.declared.room.Room.{Room}
 use Rattle.core_state.specs.declared.view.View.{View}
-use Rattle.core_state.specs.Views.{Has, times_unmarked_in}
+use Rattle.core_state.specs.Views.{Has, hand_frame, times_in_hands, times_unmarked_in}
 
 -- one where a ticket was drawn for the held page, else 0
 abbrev pub drawn_for : Option Held → ℕ
@@ -28,6 +29,10 @@ nodes_of r frame = slice_index_or r.unmarked frame []
 abbrev pub cells_for : Room → ℕ → Option CellRoom
 cells_for r seat = slice_index_or r.cells seat None
 
+-- the places for cells that are kept for a frame
+abbrev pub spare_for : Room → ℕ → Option (List (Option ℕ))
+spare_for r frame = slice_index_or r.spare frame None
+
 -- places for the cells of a page
 pub record IsCellRoom (n : ℕ) (c : CellRoom) : Type 0 where
   pub loads : length c.loads ≡ n
@@ -45,7 +50,8 @@ pub record IsSmall (o : Opening) : Type 0 where
   pub cells : o.frames * o.cells ≤ 2 ^ 22
 
 -- There is a node for each entry to come, and a node for each frame that no view has unmarked. A seat
--- that holds no page has places for the cells of one. No list is longer than a number of 64 bits says.
+-- that holds no page has places for the cells of one, and so has a frame that is in no hand, and one that
+-- is in a hand. No list is longer than a number of 64 bits says.
 pub record HasRoom (o : Opening) (views : List View) (r : Room) : Type 0 where
   pub small : IsSmall o
   pub entries : sum_by due_of views ≤ length r.entries
@@ -58,3 +64,6 @@ pub record HasRoom (o : Opening) (views : List View) (r : Room) : Type 0 where
   pub seats : length r.cells ≡ length views
   pub free : (seat : ℕ) (v : View) → Has views seat v → v.held ≡ None → IsSomeAnd (cells_for r seat) (IsCellRoom o.cells)
   pub held : (seat : ℕ) (v : View) (h : Held) → Has views seat v → v.held ≡ Some h → IsHeldRoom o.cells h
+  pub spares : length r.spare ≡ o.frames
+  pub spare : (frame : ℕ) → frame < o.frames → times_in_hands frame views ≡ 0 → IsSomeAnd (spare_for r frame) (λ known. length known ≡ o.cells)
+  pub in_hand : (seat : ℕ) (v : View) (frame : ℕ) (x : HandFrame) → Has views seat v → hand_frame v frame ≡ Some x → length x.stores ≡ o.cells

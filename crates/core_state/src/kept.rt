@@ -35,7 +35,7 @@ fn word_at(words: &WordList, index: usize) -> u64
 }
 
 /// Writes the word at an index.
-fn write_word(words: &mut WordList, index: usize, word: u64)
+pub(crate) fn write_word(words: &mut WordList, index: usize, word: u64)
     requires { index < length words.old }
     ensures { words.new ≡ slice_set words.old index word }
 {
@@ -108,7 +108,7 @@ impl Kept {
         let opening = open_opening(alloc, g, start, budgets)?;
         let words = open_words(alloc, g, start)?;
         let views = open_views(alloc, g, start, budgets)?;
-        let room = open_room(alloc, g, views.len(), opening.budget)?;
+        let room = open_room(alloc, g, start, views.len(), opening.budget)?;
         Ok(Kept {
             opening,
             snapshot: Snapshot {
@@ -160,7 +160,7 @@ impl Kept {
     }
 
     /// The frame of the page that a seat holds; 0 where it holds none.
-    fn held_frame(&self, seat: usize) -> u32
+    pub(crate) fn held_frame(&self, seat: usize) -> u32
         requires { seat < length self.now.snapshot.views }
         ensures { result ≡ frame_of (held_word (view_of self.now.snapshot.views seat).held) }
     {

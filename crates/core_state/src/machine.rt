@@ -5,8 +5,8 @@ use crate::kept::Kept;
 use crate::opening::Opening;
 use crate::seen::Seen;
 use crate::snapshot::Snapshot;
-use crate::step::Step;
-use evac_model::{Geometry, OutOfMemory, StartPage};
+use crate::step::{MoveStep, Step};
+use evac_model::{FrameNo, Geometry, OutOfMemory, StartPage};
 use std::alloc::Global;
 use std::marker::Model;
 
@@ -33,25 +33,28 @@ impl Model for Core {
 }
 
 impl Core {
-    ghost use Rattle.std.specs.Prelude.{◌≡◌, ◌+◌, ◌^◌, ◌<◌, ◌≤◌, length, sum, IfOk, OnOk, OnErr, ◌↔◌, IsTrue};
+    ghost use Rattle.std.specs.Prelude.{◌≡◌, ◌≢◌, ◌+◌, ◌^◌, ◌<◌, ◌≤◌, length, sum, IfOk, OnOk, OnErr, ◌↔◌, IsTrue};
     ghost use Rattle.evac_model.specs.State.{start_state};
     ghost use Rattle.evac_model.specs.StartPages.{AreStartPages};
     ghost use Rattle.evac_model.specs.Tables.{table_map};
     ghost use Rattle.core_state.specs.CoreOpens.{opening_of, opening_words, opening_views};
     ghost use Rattle.core_state.specs.Opens.{Opens};
+    ghost use Rattle.core_state.specs.Room.{IsSmall};
     ghost use Rattle.core_state.specs.declared.keeper.Keeper.TheVariants.{OneOwner};
     ghost use Rattle.core_state.specs.CoreState.{CoreState, IsSound, seen_by, notices_of};
     ghost use Rattle.core_state.specs.Views.{view_of};
     ghost use Rattle.core_state.specs.Steps.{Allowed};
-    ghost use Rattle.core_state.specs.Stepped.{snapshot_after, word_found};
+    ghost use Rattle.core_state.specs.MoveSteps.{AllowedMove};
+    ghost use Rattle.core_state.specs.Stepped.{snapshot_after, snapshot_after_move, word_found};
+    ghost use Rattle.core_state.specs.HandOvers.{MayHandOver, views_after_hand_over};
 
     /// A core of a machine, whose start pages are mapped. `budgets` has the number of tickets of each
     /// owner, that of owner 1 first; there are at most 16 owners, with fewer than 2^33 tickets in all.
     /// The seats are, in order: 0 the driver, with the right to move every page; each owner at its
     /// number; the scanner; who keeps the free frames; and who keeps the frames of the blocks that
     /// aren't plugged. It takes all memory that steps need, but for notices of the driver: 8 bytes for
-    /// each cell of the words and of the scanner's copies, 16 bytes for each cell of a frame in hand,
-    /// and some 50 bytes for each frame and seat, and 250 for each ticket.
+    /// each cell of the words and of the scanner's copies, 16 bytes for each cell of a frame, in hand or
+    /// not, and some 50 bytes for each frame and seat, 100 more for each frame, and 250 for each ticket.
     pub fn open(
         alloc: Global,
         g: Geometry,
@@ -91,6 +94,38 @@ impl Core {
         self.kept.step(seat as usize, step)
     }
 
+    /// Makes a step of a seat on the mapping of the page that it holds. The step is allowed. It takes no
+    /// memory: the places for the cells of a frame are kept while it is in no hand. Its time is at most
+    /// that of the cells of one page. No clause says that the words and the views stay sound: that each
+    /// allowed step on a mapping keeps them so is a law of `core_moves`, the crate above.
+    pub fn make_move(&mut self, seat: u32, step: MoveStep)
+        requires seat { seat < length self.old.snapshot.views }
+        requires sound { IsSound self.old }
+        requires may { AllowedMove OneOwner self.old.opening (view_of self.old.snapshot.views seat) step }
+        ensures snapshot { self.new.snapshot ≡ snapshot_after_move OneOwner self.old.snapshot seat step }
+        ensures opening { self.new.opening ≡ self.old.opening }
+        ensures room { self.new.room ≡ self.old.room }
+    {
+        self.kept.move_step(seat as usize, step);
+    }
+
+    /// Hands `n` frames over, from the frame `first` on: they leave the hand of the seat `from` for that
+    /// of the seat `to`, each with what was stored in it. Both seats hold no page and have marked what
+    /// they wrote. It takes no memory, and its time is that of the frames. No clause says that the words
+    /// and the views stay sound: that each hand-over keeps them so is a law of `core_moves`, the crate
+    /// above.
+    pub fn make_hand_over(&mut self, from: u32, to: u32, first: FrameNo, n: u32)
+        requires from { from < length self.old.snapshot.views }
+        requires to { to < length self.old.snapshot.views }
+        requires apart { from ≢ to }
+        requires may { MayHandOver self.old.opening (view_of self.old.snapshot.views from) (view_of self.old.snapshot.views to) first.0 n }
+        ensures snapshot { self.new.snapshot ≡ record self.old.snapshot { views = views_after_hand_over self.old.snapshot.views from to (view_of self.old.snapshot.views from) (view_of self.old.snapshot.views to) first.0 n } }
+        ensures opening { self.new.opening ≡ self.old.opening }
+        ensures room { self.new.room ≡ self.old.room }
+    {
+        self.kept.hand_over(from as usize, to as usize, first, n);
+    }
+
     /// Whether the step is one that the seat may make now. It takes no memory; a release looks once at
     /// each cell of a page, any other step at none.
     pub fn allows(&self, seat: u32, step: Step) -> bool
@@ -117,9 +152,10 @@ impl Core {
         &self.kept.snapshot
     }
 
-    /// What the run began with.
+    /// What the run began with: at most 65,536 pages and frames, and at most 2^22 cells in all.
     pub fn opening(&self) -> &Opening
-        ensures { result.now ≡ self.now.opening }
+        ensures opening { result.now ≡ self.now.opening }
+        ensures small { IsSmall self.now.opening }
     {
         &self.kept.opening
     }

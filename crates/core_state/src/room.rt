@@ -36,10 +36,12 @@ pub(crate) struct Room {
     pub(crate) unmarked: Listed<LinkedList<FrameNo, Global>>,
     /// For each seat the places for cells, while it holds no page.
     pub(crate) cells: Listed<Option<CellRoom>>,
+    /// For each frame the places for its cells, while no seat has it in hand.
+    pub(crate) spare: Listed<Option<KnownCells>>,
 }
 
 impl Room {
-    ghost use Rattle.std.specs.Prelude.{◌≡◌, ◌+◌, ◌^◌, ◌≤◌, length, OnOk, OnErr};
+    ghost use Rattle.std.specs.Prelude.{◌≡◌, ◌+◌, ◌^◌, ◌<◌, ◌≤◌, length, slice_index_or, slice_set, None, OnOk, OnErr};
 
     /// Makes room for one more notice.
     pub(crate) fn add_notice(&mut self) -> Result<(), OutOfMemory>
@@ -55,5 +57,22 @@ impl Room {
         self.notices.push_back(NO_NOTICE)?;
         self.notices_made += 1;
         Ok(())
+    }
+
+    /// Takes the places for the cells of a frame, where there are.
+    pub(crate) fn take_spare(&mut self, frame: FrameNo) -> Option<KnownCells>
+        requires { frame.0 < length self.old.spare }
+        ensures spare { result ≡ slice_index_or self.old.spare frame.0 None }
+        ensures room { self.new ≡ record self.old { spare = slice_set self.old.spare frame.0 None } }
+    {
+        self.spare.item_mut(frame.0 as usize).take()
+    }
+
+    /// Keeps places for the cells of a frame.
+    pub(crate) fn keep_spare(&mut self, frame: FrameNo, spare: Option<KnownCells>)
+        requires { frame.0 < length self.old.spare }
+        ensures { self.new ≡ record self.old { spare = slice_set self.old.spare frame.0 spare } }
+    {
+        *self.spare.item_mut(frame.0 as usize) = spare;
     }
 }

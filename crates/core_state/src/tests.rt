@@ -2,7 +2,7 @@
 
 ghost use Rattle.std.specs.Prelude.{◌≡◌};
 
-use crate::{CallDone, Core, Seen, Step};
+use crate::{CallDone, Core, MoveStep, Seen, Step, View};
 use evac_model::{Call, FrameNo, Geometry, Kind, OutOfMemory, PageNo, Reply, StartPage};
 use std::alloc::Global;
 use std::test::Fail;
@@ -22,7 +22,8 @@ const FREE_REFUSED: CallDone = CallDone {
 
 /// Steps of the driver and of two owners, and what each gives. The driver takes page 0 and lets it go;
 /// owner 1 finds it taken once, then takes it, draws, loads and stores; owner 2 takes the unmapped page 1,
-/// draws and answers a free; owner 1 marks.
+/// draws and answers a free; owner 1 marks, and unmaps its page. Then who keeps the free frames hands
+/// frames 2 and 3 over to who keeps the frames that aren't plugged.
 fn steps_of_three(alloc: Global, g: Geometry) -> Result<(Core, [Seen; 11]), OutOfMemory>
     requires { g ≡ record { cells = 2; block = 2; boot = 1; managed = 2; plugged = 1; pages = 2 } }
 {
@@ -51,6 +52,8 @@ fn steps_of_three(alloc: Global, g: Geometry) -> Result<(Core, [Seen; 11]), OutO
         },
     );
     let owner_marks = core.step(1, Step::Mark { frame: FrameNo(1) });
+    core.make_move(1, MoveStep::Unmap);
+    core.make_hand_over(4, 5, FrameNo(2), 2);
     let seen = [
         driver_takes,
         found_taken,
@@ -65,6 +68,15 @@ fn steps_of_three(alloc: Global, g: Geometry) -> Result<(Core, [Seen; 11]), OutO
         owner_marks,
     ];
     Ok((core, seen))
+}
+
+/// Which of the six frames a seat has in hand.
+fn in_hand(view: &View) -> [bool; 6] {
+    let mut there = [false; 6];
+    for (place, frame) in there.iter_mut().zip(view.hand.as_slice()) {
+        *place = frame.is_some();
+    }
+    there
 }
 
 // Frames of two cells in blocks of two frames: a boot block, and two managed ones, one of them plugged.
@@ -88,13 +100,14 @@ fn two_owners_beside_the_driver(rt: HostRuntime) -> Result<(), Fail> {
         Seen::Nothing,
     ];
     assert_eq!(rt; seen, expected);
-    // Two tickets are drawn. Page 0 is held, page 1 has the bound 2, frame 1 is dirty, its cell 1 is 9.
+    // Two tickets are drawn. Page 0 is held and unmapped, page 1 has the bound 2, frame 1 is dirty, its
+    // cell 1 is 9.
     let (opening, snapshot) = core.into_parts();
     assert_eq!(rt;
         snapshot.words.as_slice(),
         [
             2,
-            1029,
+            1,
             2_147_483_648,
             0,
             1,
@@ -129,5 +142,10 @@ fn two_owners_beside_the_driver(rt: HostRuntime) -> Result<(), Fail> {
     assert_eq!(rt; other.left, 0);
     assert_eq!(rt; other.entries.len(), 1);
     assert_eq!(rt; opening.budget, 3);
+    assert_eq!(rt; in_hand(owner), [false, true, false, false, false, false]);
+    let free = views.get(4).ok_or("no keeper of free frames")?;
+    assert_eq!(rt; in_hand(free), [true, false, false, false, false, false]);
+    let unplugged = views.get(5).ok_or("no keeper of unplugged frames")?;
+    assert_eq!(rt; in_hand(unplugged), [false, false, true, true, true, true]);
     Ok(())
 }

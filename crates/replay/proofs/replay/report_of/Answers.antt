@@ -23,7 +23,7 @@ pub final_pages-requires : goal.final_pages-requires
 final_pages-requires c =
     let running = c.run.invariant in
     let words = c.as_slice-words.ensures ∙ ap (λ (s : Snapshot). s.words) c.snapshot-snapshot.ensures in
-    let opened = c.opening-opening.ensures ∙ running.opened in
+    let opened = c.opening-opening.ensures.opening ∙ running.opened in
     record {
       inside =
           subst (λ (o : Opening). MapsInside o c.as_slice-words.result.now) (sym opened)

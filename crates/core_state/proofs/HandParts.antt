@@ -1,0 +1,66 @@
+-- The two hands after frames went from the one to the other, frame by frame.
+use Rattle.std.proofs.Common.{◌≡◌, ℕ, ◌+◌, ◌-◌, ◌<◌, ◌≤◌, ◌⊎◌, List, ◌++◌, length, length-append, length-take, length-drop, get_or, take, drop, replicate, ap, ◌∙◌, ⊎_elim, arith, None}
+use Rattle.std.proofs.lemmas.List.{length-replicate, get_or_append_left, get_or-append_right, get_or-replicate, get_or-take, get_or-drop}
+use Rattle.core_state.specs.declared.opening.Opening.{Opening}
+use Rattle.core_state.specs.declared.view.View.{View}
+use Rattle.core_state.specs.Views.{hand_frame}
+use Rattle.core_state.specs.HandOvers.{MayHandOver, hand_without, hand_with}
+
+-- ---- a list of which a part is replaced
+
+module _ {A : Type 0} (xs mid : List A) (a n : ℕ) (d : A) (size : length mid ≡ n) (fits : a + n ≤ length xs) where
+  length-front : length (take a xs) ≡ a
+  length-front = length-take a xs ∙ omega arith
+
+  length-front_and_mid : length (take a xs ++ mid) ≡ a + n
+  length-front_and_mid = length-append (take a xs) mid ∙ (let f = length-front in omega arith)
+
+  pub get_or-before_part : (k : ℕ) → k < a → get_or (take a xs ++ mid ++ drop (a + n) xs) k d ≡ get_or xs k d
+  get_or-before_part k lt = let f = length-front in let b = length-front_and_mid in
+      get_or_append_left (take a xs ++ mid) (drop (a + n) xs) d k (omega arith)
+      ∙ get_or_append_left (take a xs) mid d k (omega arith) ∙ get_or-take a xs k d lt
+
+  pub get_or-in_part : (k : ℕ) → a ≤ k → k < a + n → get_or (take a xs ++ mid ++ drop (a + n) xs) k d ≡ get_or mid (k - a) d
+  get_or-in_part k low high = let b = length-front_and_mid in
+      get_or_append_left (take a xs ++ mid) (drop (a + n) xs) d k (omega arith)
+      ∙ get_or-append_right (take a xs) mid a k d length-front low
+
+  pub get_or-after_part : (k : ℕ) → a + n ≤ k → get_or (take a xs ++ mid ++ drop (a + n) xs) k d ≡ get_or xs k d
+  get_or-after_part k high =
+      let q : a + n + (k - (a + n)) ≡ k = omega arith in
+      get_or-append_right (take a xs ++ mid) (drop (a + n) xs) (a + n) k d length-front_and_mid high
+      ∙ get_or-drop (a + n) xs (k - (a + n)) d ∙ ap (λ (j : ℕ). get_or xs j d) q
+
+-- ---- the two hands
+
+module _ (o : Opening) (giver receiver : View) (first n : ℕ) (may : MayHandOver o giver receiver first n) where
+  giver_fits : first + n ≤ length giver.hand
+  giver_fits = let a = may.giver_rests.seated.hand in let b = may.in_range in omega arith
+
+  receiver_fits : first + n ≤ length receiver.hand
+  receiver_fits = let a = may.receiver_rests.seated.hand in let b = may.in_range in omega arith
+
+  length-given : length (take n (drop first giver.hand)) ≡ n
+  length-given = length-take n (drop first giver.hand) ∙ (let a = length-drop first giver.hand in let b = giver_fits in omega arith)
+
+  -- a frame that is handed over
+  pub left_giver : (f : ℕ) → first ≤ f → f < first + n → get_or (hand_without giver.hand first n) f None ≡ None
+  left_giver f low high = get_or-in_part giver.hand (replicate n None) first n None (length-replicate n None) giver_fits f low high ∙ get_or-replicate n (f - first) None None (omega arith)
+
+  pub came : (f : ℕ) → first ≤ f → f < first + n → get_or (hand_with receiver.hand giver.hand first n) f None ≡ hand_frame giver f
+  came f low high =
+      let q : first + (f - first) ≡ f = omega arith in
+      get_or-in_part receiver.hand (take n (drop first giver.hand)) first n None length-given receiver_fits f low high
+      ∙ get_or-take n (drop first giver.hand) (f - first) None (omega arith)
+      ∙ get_or-drop first giver.hand (f - first) None ∙ ap (λ (j : ℕ). get_or giver.hand j None) q
+
+  -- any other frame
+  pub stayed : (f : ℕ) → (f < first) ⊎ (first + n ≤ f) → get_or (hand_without giver.hand first n) f None ≡ hand_frame giver f
+  stayed f = ⊎_elim
+      (λ lt. get_or-before_part giver.hand (replicate n None) first n None (length-replicate n None) giver_fits f lt)
+      (λ le. get_or-after_part giver.hand (replicate n None) first n None (length-replicate n None) giver_fits f le)
+
+  pub was_there : (f : ℕ) → (f < first) ⊎ (first + n ≤ f) → get_or (hand_with receiver.hand giver.hand first n) f None ≡ hand_frame receiver f
+  was_there f = ⊎_elim
+      (λ lt. get_or-before_part receiver.hand (take n (drop first giver.hand)) first n None length-given receiver_fits f lt)
+      (λ le. get_or-after_part receiver.hand (take n (drop first giver.hand)) first n None length-given receiver_fits f le)
