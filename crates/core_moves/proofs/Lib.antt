@@ -1,0 +1,14 @@
+pub mod MoveWords
+pub mod Moves
+pub mod FrameMoves
+pub mod PageMoves
+pub mod Changed
+pub mod TurnMoves
+pub mod TicketMoves
+pub mod BoundMoves
+pub mod NoticedMoves
+pub mod ImageMoves
+pub mod HandFrames
+pub mod HandOvers
+pub mod SoundMoves
+pub mod CoreMoves
