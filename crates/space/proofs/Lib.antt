@@ -1,0 +1,17 @@
+pub mod ListMembers
+pub mod BlockFrames
+pub mod CachesBehind
+pub mod RunsOfSpaces
+pub mod SpacesBehind
+pub mod KeptSpaces
+pub mod Opens
+pub mod Journals
+pub mod Refused
+pub mod Members
+pub mod Puts
+pub mod Spaces
+pub mod Choices
+pub mod Leases
+pub mod LeasesKept
+pub mod SpaceLaws
+pub mod JournalsKept

@@ -1,0 +1,38 @@
+-- A frame space as its journal: all that it answers follows from the actions so far.
+use Rattle.std.specs.Prelude.{◌≡◌, ℕ, ◌<◌, true, false, nat_eq, List, [], ◌∷◌, ◌++◌, map, None}
+use Rattle.std.specs.List.{AllByRecursion, IsDistinct}
+use Rattle.evac_model.specs.declared.names.Kind.{Kind}
+use Rattle.evac_model.specs.declared.scenario.StartPage.{StartPage}
+use Rattle.evac_model.specs.declared.space.SpaceAction.{SpaceAction}
+use Rattle.evac_model.specs.Geometry.{Sizes, IsThereAtStart, frame_count}
+use Rattle.evac_model.specs.FreeRuns.{fits}
+use Rattle.evac_model.specs.SpaceJournal.{SpaceState, space_after, out_for, is_frame_in}
+
+-- the machine, the kind of pages that managed blocks are online for, the space at its opening, and the
+-- actions since
+pub record JournaledSpace : Type 0 where
+  pub sizes : Sizes
+  pub online : Kind
+  pub opening : SpaceState
+  pub journal : List SpaceAction
+
+-- the space now
+abbrev pub state_of : JournaledSpace → SpaceState
+state_of v = space_after v.sizes v.online v.opening v.journal
+
+-- the space behind one more action
+abbrev pub with_action : SpaceAction → JournaledSpace → JournaledSpace
+with_action a v = record v { journal = v.journal ++ a ∷ [] }
+
+-- a frame that isn't out, in no isolated block, and of a block that takes the kind
+pub record IsFreeFor (v : JournaledSpace) (kind : Kind) (frame : ℕ) : Type 0 where
+  pub there : frame < frame_count v.sizes
+  pub fitting : fits v.sizes v.online kind frame ≡ true
+  pub not_out : out_for (state_of v) frame ≡ None
+  pub not_isolated : is_frame_in v.sizes (state_of v).isolated frame ≡ false
+
+-- frames that a space may open with: they are there at the start, each once, and take their pages
+pub record AreStartFrames (s : Sizes) (online : Kind) (start : List StartPage) : Type 0 where
+  pub there : AllByRecursion (λ p. IsThereAtStart s p.frame.0) start
+  pub fitting : AllByRecursion (λ p. fits s online p.kind p.frame.0 ≡ true) start
+  pub distinct : IsDistinct nat_eq (map (λ p. p.frame.0) start)

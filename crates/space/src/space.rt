@@ -1,0 +1,237 @@
+//! The frame space.
+
+ghost use Rattle.std.specs.Prelude.{◌≡◌};
+ghost use Rattle.evac_model.specs.declared.space.IsolateFault.{IsolateFault};
+
+use crate::kept::Kept;
+use evac_model::{
+    BlockNo, FrameNo, Geometry, IsolateFault, Kind, LeaseFault, NotEmpty, OutOfMemory, PageNo,
+    SpaceAction, StartPage, Unmovable,
+};
+use std::alloc::Global;
+use std::marker::Model;
+
+/// Who gets which frame of a machine, and which blocks are isolated and offline. Contracts see the
+/// space at its opening and the actions since, from which everything else follows. There is memory
+/// for each return, undo, offline and online that may follow: only leases and isolations take more.
+#[derive(Debug, Drop)]
+pub struct Space {
+    kept: Kept,
+    start: Vec<StartPage>,
+    journal: Vec<SpaceAction>,
+    // how many actions may follow without another lease or isolation
+    owed: usize,
+}
+
+impl Model for Space {
+    ghost use Rattle.std.specs.Prelude.{vec_len, vec_capacity};
+    ghost use Rattle.space.specs.JournaledSpace.{JournaledSpace};
+    ghost use Rattle.space.specs.KeptJournal.{journaled, IsLeftBy};
+
+    ghost Value = { JournaledSpace };
+
+    ghost view = { λ a. journaled a.kept a.start.items a.journal.items };
+
+    ghost invariant = { λ a. IsLeftBy (journaled a.kept a.start.items a.journal.items) a.kept (vec_len a.journal) a.owed (vec_capacity a.journal) };
+}
+
+/// The fault that a frame out for an unmovable page makes.
+fn unmovable(refused: Unmovable) -> IsolateFault
+    ensures { result ≡ IsolateFault.Unmovable refused.frame refused.page }
+{
+    IsolateFault::Unmovable {
+        frame: refused.frame,
+        page: refused.page,
+    }
+}
+
+impl Space {
+    ghost use Rattle.std.specs.Prelude.{◌≡◌, ◌≢◌, ℕ, ◌<◌, ◌≤◌, [], true, false, filter, length, None, Err, IfOk, IfErr, OnOk, OnErr};
+    ghost use Rattle.evac_model.specs.Geometry.{IsWithinLimits, frame_count};
+    ghost use Rattle.evac_model.specs.Numbers.{is_in};
+    ghost use Rattle.evac_model.specs.SpaceJournal.{space_at_start, out_for, IsPossible, IsPossibleJournal};
+    ghost use Rattle.evac_model.specs.declared.space.SpaceAction.{SpaceAction};
+    ghost use Rattle.evac_model.specs.declared.space.IsolateFault.{IsolateFault};
+    ghost use Rattle.evac_model.specs.declared.space.LeaseFault.{LeaseFault};
+    ghost use Rattle.page_blocks.specs.Marks.{page_and_kind, is_unmovable};
+    ghost use Rattle.space.specs.JournaledSpace.{state_of, with_action, IsFreeFor, AreStartFrames};
+    ghost use Rattle.space.specs.SpaceInside.{IsSpace};
+    ghost use Rattle.space.specs.Refusals.{frames_out_of, IsFirstOf, Shows, emptiness};
+
+    /// Opens the space of a machine: the frames of the start pages are out, the blocks that aren't
+    /// plugged are offline, and all other frames are free. It looks at each frame a few times.
+    pub fn open(
+        alloc: Global,
+        g: Geometry,
+        online: Kind,
+        start: &[StartPage],
+    ) -> Result<Space, OutOfMemory>
+        requires { AreStartFrames g online start.now }
+        ensures { IfOk result (λ sp. sp ≡ record { sizes = g; online = online; opening = space_at_start g start.now; journal = [] }) }
+    {
+        let kept = Kept::open(alloc, &g, online, start)?;
+        let owed = kept.count_out() + (g.managed() - g.plugged()) as usize;
+        let start = start.to_vec(alloc)?;
+        let journal = Vec::with_capacity(alloc, owed)?;
+        Ok(Space {
+            kept,
+            start,
+            journal,
+            owed,
+        })
+    }
+
+    /// The sizes of the machine.
+    pub fn geometry(&self) -> Geometry
+        ensures sizes { result ≡ self.now.sizes }
+        ensures within { IsWithinLimits self.now.sizes }
+        ensures space { IsSpace self.now.sizes (state_of self.now) }
+    {
+        self.kept.geometry()
+    }
+
+    /// The actions so far, in order.
+    pub fn journal(&self) -> &[SpaceAction]
+        ensures actions { result.now ≡ self.now.journal }
+        ensures possible { IsPossibleJournal self.now.sizes self.now.online self.now.opening self.now.journal }
+    {
+        &self.journal
+    }
+
+    /// The page and the kind that a frame is out for, if it is out. A number that is no frame's is not.
+    pub fn out_at(&self, frame: FrameNo) -> Option<(PageNo, Kind)>
+        ensures { result ≡ page_and_kind (out_for (state_of self.now) frame.0) }
+    {
+        self.kept.out_at(frame)
+    }
+
+    /// Whether a block is isolated. A block that isn't a managed one is not.
+    pub fn is_isolated(&self, b: BlockNo) -> bool
+        ensures { result ≡ is_in b.0 (state_of self.now).isolated }
+    {
+        self.kept.is_isolated(b)
+    }
+
+    /// Whether a block is offline. A block that isn't a managed one is not.
+    pub fn is_offline(&self, b: BlockNo) -> bool
+        ensures { result ≡ is_in b.0 (state_of self.now).offline }
+    {
+        self.kept.is_offline(b)
+    }
+
+    /// Leases a frame for a page of that kind to a caller: the driver, 0, or an owner, 1 to 16. It is
+    /// the frame that the rules of the journal choose. It fails where no frame that takes the page is
+    /// free, which says how long the journal was then, or where there is no memory.
+    pub fn lease(&mut self, who: u32, page: PageNo, kind: Kind) -> Result<FrameNo, LeaseFault>
+        requires caller { who ≤ 16 }
+        requires page { page.0 < self.old.sizes.pages }
+        ensures leased { IfOk result (λ frame. self.new ≡ with_action (SpaceAction.Lease who frame page kind) self.old) }
+        ensures possible { IfOk result (λ frame. IsPossible self.old.sizes self.old.online (state_of self.old) (SpaceAction.Lease who frame page kind)) }
+        ensures free { IfOk result (λ frame. IsFreeFor self.old kind frame.0) }
+
+        ensures at { (at : ℕ) → result ≡ Err (LeaseFault.NoFrame at) → at ≡ length self.old.journal }
+        ensures none_free { (at frame : ℕ) → result ≡ Err (LeaseFault.NoFrame at) → ¬ IsFreeFor self.old kind frame }
+        ensures err { OnErr result (self.new ≡ self.old) }
+    {
+        if self.journal.reserve(self.owed + 2).is_err() {
+            return Err(LeaseFault::OutOfMemory);
+        }
+        match self.kept.lease(who, page, &kind) {
+            None => Err(LeaseFault::NoFrame {
+                at: self.journal.len() as u64,
+            }),
+            Some(frame) => {
+                self.owed += 1;
+                self.journal.push_reserved(SpaceAction::Lease {
+                    who,
+                    frame,
+                    page,
+                    kind,
+                });
+                Ok(frame)
+            }
+        }
+    }
+
+    /// Takes a frame back from a caller: the driver, 0, or an owner, 1 to 16. In an isolated block it
+    /// is kept aside; else it goes into the caller's cache, and where 8 were there, the one that was
+    /// put first is free again. It takes no memory.
+    pub fn give_back(&mut self, who: u32, frame: FrameNo)
+        requires caller { who ≤ 16 }
+        requires out { out_for (state_of self.old) frame.0 ≢ None }
+        ensures returned { self.new ≡ with_action (SpaceAction.Return who frame) self.old }
+        ensures possible { IsPossible self.old.sizes self.old.online (state_of self.old) (SpaceAction.Return who frame) }
+    {
+        self.kept.give_back(who, frame);
+        self.owed -= 1;
+        self.journal
+            .push_reserved(SpaceAction::Return { who, frame });
+    }
+
+    /// Isolates a block, after Linux's `start_isolate_page_range`: no frame of it is leased from then
+    /// on. It fails at the first frame of the block that is out for an unmovable page, or where there
+    /// is no memory.
+    pub fn isolate(&mut self, b: BlockNo) -> Result<(), IsolateFault>
+        requires managed { b.0 < self.old.sizes.managed }
+        requires there { is_in b.0 (state_of self.old).isolated ≡ false }
+        ensures ok { OnOk result (self.new ≡ with_action (SpaceAction.Isolate b) self.old) }
+        ensures possible { OnOk result (IsPossible self.old.sizes self.old.online (state_of self.old) (SpaceAction.Isolate b)) }
+
+        ensures unmovable { IfErr result (IsFirstOf (filter is_unmovable (frames_out_of self.old.sizes (state_of self.old) b.0))) }
+        ensures refused { IfErr result (Shows (¬ IsPossible self.old.sizes self.old.online (state_of self.old) (SpaceAction.Isolate b))) }
+        ensures err { OnErr result (self.new ≡ self.old) }
+    {
+        if self.journal.reserve(self.owed + 3).is_err() {
+            return Err(IsolateFault::OutOfMemory);
+        }
+        if let Err(refused) = self.kept.isolate(b) {
+            return Err(unmovable(refused));
+        }
+        self.owed += 2;
+        self.journal
+            .push_reserved(SpaceAction::Isolate { block: b });
+        Ok(())
+    }
+
+    /// Takes the isolation of a block back, after Linux's `undo_isolate_page_range`: its frames that
+    /// aren't out are free again, those given back since among them. It takes no memory.
+    pub fn undo(&mut self, b: BlockNo)
+        requires isolated { is_in b.0 (state_of self.old).isolated ≡ true }
+        requires there { is_in b.0 (state_of self.old).offline ≡ false }
+        ensures undone { self.new ≡ with_action (SpaceAction.Undo b) self.old }
+        ensures possible { IsPossible self.old.sizes self.old.online (state_of self.old) (SpaceAction.Undo b) }
+    {
+        self.kept.undo(b);
+        self.owed -= 2;
+        self.journal.push_reserved(SpaceAction::Undo { block: b });
+    }
+
+    /// Takes an isolated block away, after Linux's `offline_pages`. It fails at the first frame of the
+    /// block that is out, and then changes nothing. It takes no memory.
+    pub fn offline(&mut self, b: BlockNo) -> Result<(), NotEmpty>
+        requires isolated { is_in b.0 (state_of self.old).isolated ≡ true }
+        requires there { is_in b.0 (state_of self.old).offline ≡ false }
+        ensures empty { result ≡ emptiness (frames_out_of self.old.sizes (state_of self.old) b.0) }
+        ensures ok { OnOk result (self.new ≡ with_action (SpaceAction.Offline b) self.old) }
+        ensures possible { OnOk result (IsPossible self.old.sizes self.old.online (state_of self.old) (SpaceAction.Offline b)) }
+        ensures err { OnErr result (self.new ≡ self.old) }
+    {
+        self.kept.take_offline(b)?;
+        self.owed -= 1;
+        self.journal
+            .push_reserved(SpaceAction::Offline { block: b });
+        Ok(())
+    }
+
+    /// Gives an offline block back, after Linux's `online_pages`: all its frames are free. It takes no
+    /// memory.
+    pub fn online(&mut self, b: BlockNo)
+        requires { is_in b.0 (state_of self.old).offline ≡ true }
+        ensures given { self.new ≡ with_action (SpaceAction.Online b) self.old }
+        ensures possible { IsPossible self.old.sizes self.old.online (state_of self.old) (SpaceAction.Online b) }
+    {
+        self.kept.bring_online(b);
+        self.owed -= 1;
+        self.journal.push_reserved(SpaceAction::Online { block: b });
+    }
+}
