@@ -100,7 +100,7 @@ impl Runs {
     ghost use Rattle.buddy.specs.FreeFrames.{no_frames, after_take, with_frames, with_withdrawn, with_restored, IsNeither, AreApart};
 
     /// The machine with no free frame, and no block withdrawn. `online` is the kind of pages that
-    /// managed blocks are online for. It takes all memory that later calls need, at most some 100
+    /// managed blocks are online for. It takes all memory that later calls need, at most some 200
     /// bytes for each frame, and fails where there is none.
     pub fn new(alloc: Global, g: Geometry, online: Kind) -> Result<Runs, OutOfMemory>
         ensures { IfOk result (λ r. r ≡ no_frames g online) }

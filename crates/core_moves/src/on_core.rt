@@ -13,7 +13,7 @@ use evac_model::FrameNo;
 
 /// Makes a step of a seat on the mapping of the page that it holds, which is allowed: the steps of
 /// Linux's page migration (a migration entry is set, and replaced by the new frame's), and those of a
-/// map and an unmap. It finds no word that counts. It takes no memory, and its time is at most that of
+/// map and an unmap. It always gives `Nothing`. It takes no memory, and its time is at most that of
 /// the cells of one page.
 pub fn step_move(core: &mut Core, seat: u32, step: MoveStep) -> Seen
     requires seat { seat < length core.old.snapshot.views }
@@ -25,6 +25,7 @@ pub fn step_move(core: &mut Core, seat: u32, step: MoveStep) -> Seen
     ensures opening { core.new.opening ≡ core.old.opening }
     ensures room { core.new.room ≡ core.old.room }
 {
+    // the opening is small, so that each frame has room in an entry word
     let _opening = core.opening();
     core.make_move(seat, step);
     Seen::Nothing

@@ -17,7 +17,7 @@ use Rattle.evac_model.specs.FreeRuns.{fits, is_all_free, chosen_run}
 use Rattle.evac_model.specs.SpaceJournal.{SpaceState, Leased, out_for, is_frame_of, is_frame_in, free_frames, from_cache, from_run, from_runs, one_frame, kernel_run, drained, lease_of, after_lease}
 use Rattle.buddy.proofs.FreeRunLaws.{no_choice}
 use Rattle.frame_cache.specs.Drains.{AreCaches, AreDistinct}
-use Rattle.space.specs.JournaledSpace.{JournaledSpace, state_of, IsFreeFor}
+use Rattle.space.specs.JournaledSpace.{JournaledSpace, state_of, IsLeasableFor}
 use Rattle.space.specs.SpaceInside.{IsSpace}
 use Rattle.space.proofs.Members.{any-filter, get_or-filter_each, any-set_in, any-set_rest, any-rest_none, any-get_or, is_in-range_with_len, distinct-set, distinct-range_with_len, distinct-get_or}
 use Rattle.space.proofs.Spaces.{IsFreeFrame, free_frame, free_frame_in, one_free, drained_space}
@@ -287,16 +287,16 @@ lease_none s online st who kind w h = (
 )
 
 -- the same of a journaled space
-pub free_for : (v : JournaledSpace) (kind : Kind) (f : ℕ) → IsLeasable v.sizes v.online (state_of v) kind f ↔ IsFreeFor v kind f
+pub free_for : (v : JournaledSpace) (kind : Kind) (f : ℕ) → IsLeasable v.sizes v.online (state_of v) kind f ↔ IsLeasableFor v kind f
 free_for v kind f = (
   λ h. record { there = h.there; fitting = h.fitting; not_out = h.not_out; not_isolated = h.not_isolated },
   λ h. record { there = h.there; fitting = h.fitting; not_out = h.not_out; not_isolated = h.not_isolated },
 )
 
-pub leased_free : (v : JournaledSpace) (who : ℕ) (kind : Kind) (l : Leased) → IsWithinLimits v.sizes → IsSpace v.sizes (state_of v) → lease_of v.sizes v.online (state_of v) who kind ≡ Some l → IsFreeFor v kind l.frame
+pub leased_free : (v : JournaledSpace) (who : ℕ) (kind : Kind) (l : Leased) → IsWithinLimits v.sizes → IsSpace v.sizes (state_of v) → lease_of v.sizes v.online (state_of v) who kind ≡ Some l → IsLeasableFor v kind l.frame
 leased_free v who kind l w h e = (free_for v kind l.frame).0 (lease_good v.sizes v.online (state_of v) who kind l w h e).leasable
 
-pub refused_none : (v : JournaledSpace) (who : ℕ) (kind : Kind) → IsWithinLimits v.sizes → IsSpace v.sizes (state_of v) → (lease_of v.sizes v.online (state_of v) who kind ≡ None) ↔ ((f : ℕ) → ¬ IsFreeFor v kind f)
+pub refused_none : (v : JournaledSpace) (who : ℕ) (kind : Kind) → IsWithinLimits v.sizes → IsSpace v.sizes (state_of v) → (lease_of v.sizes v.online (state_of v) who kind ≡ None) ↔ ((f : ℕ) → ¬ IsLeasableFor v kind f)
 refused_none v who kind w h =
     let law = lease_none v.sizes v.online (state_of v) who kind w h in
     (λ none f free. law.0 none f ((free_for v kind f).1 free), λ none. law.1 (λ f free. none f ((free_for v kind f).0 free)))

@@ -11,7 +11,7 @@ use Rattle.evac_model.specs.Geometry.{Sizes, IsWithinLimits, frame_count}
 use Rattle.evac_model.specs.SpaceJournal.{SpaceState, Out, Leased, lease_of, after_lease, Chooses}
 use Rattle.buddy.specs.FreeFrames.{FreeFrames}
 use Rattle.page_blocks.specs.Marks.{Marks}
-use Rattle.space.specs.JournaledSpace.{JournaledSpace, state_of, IsFreeFor}
+use Rattle.space.specs.JournaledSpace.{JournaledSpace, state_of, IsLeasableFor}
 use Rattle.space.specs.KeptSpace.{KeptSpace, behind, AreOf}
 use Rattle.space.specs.KeptJournal.{IsLeftBy}
 use Rattle.space.specs.SpaceInside.{IsSpace, IsOwed, runs_of}
@@ -122,13 +122,13 @@ pub chosen_left : (v : JournaledSpace) (k : KeptSpace) (used owed room who : ℕ
 chosen_left v k used owed room who kind frame h chosen =
     let P : KeptSpace → Type 0 = λ x. Chooses (lease_of x.sizes x.online x.state who kind) frame in subst P h.left chosen
 
-pub free_left : (v : JournaledSpace) (k : KeptSpace) (used owed room who : ℕ) (kind : Kind) (frame : ℕ) → IsLeftBy v k used owed room → IsWithinLimits k.sizes → IsSpace k.sizes k.state → Chooses (lease_of k.sizes k.online k.state who kind) frame → IsFreeFor v kind frame
+pub free_left : (v : JournaledSpace) (k : KeptSpace) (used owed room who : ℕ) (kind : Kind) (frame : ℕ) → IsLeftBy v k used owed room → IsWithinLimits k.sizes → IsSpace k.sizes k.state → Chooses (lease_of k.sizes k.online k.state who kind) frame → IsLeasableFor v kind frame
 free_left v k used owed room who kind frame h within space chosen =
     let w : IsLeaseOf (lease_of v.sizes v.online (state_of v) who kind) frame =
     lease_chosen (lease_of v.sizes v.online (state_of v) who kind) frame (chosen_left v k used owed room who kind frame h chosen) in
-    subst (IsFreeFor v kind) w.gave (leased_free v who kind w.leased (within_left v k used owed room h within) (space_left v k used owed room h space) w.is)
+    subst (IsLeasableFor v kind) w.gave (leased_free v who kind w.leased (within_left v k used owed room h within) (space_left v k used owed room h space) w.is)
 
-pub none_left : (v : JournaledSpace) (k : KeptSpace) (used owed room who : ℕ) (kind : Kind) → IsLeftBy v k used owed room → IsWithinLimits k.sizes → IsSpace k.sizes k.state → lease_of k.sizes k.online k.state who kind ≡ None → (frame : ℕ) → ¬ IsFreeFor v kind frame
+pub none_left : (v : JournaledSpace) (k : KeptSpace) (used owed room who : ℕ) (kind : Kind) → IsLeftBy v k used owed room → IsWithinLimits k.sizes → IsSpace k.sizes k.state → lease_of k.sizes k.online k.state who kind ≡ None → (frame : ℕ) → ¬ IsLeasableFor v kind frame
 none_left v k used owed room who kind h within space none =
     (refused_none v who kind (within_left v k used owed room h within) (space_left v k used owed room h space)).0
     (ap (λ (x : KeptSpace). lease_of x.sizes x.online x.state who kind) (sym h.left) ∙ none)

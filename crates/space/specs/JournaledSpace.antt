@@ -25,7 +25,7 @@ abbrev pub with_action : SpaceAction → JournaledSpace → JournaledSpace
 with_action a v = record v { journal = v.journal ++ a ∷ [] }
 
 -- a frame that isn't out, in no isolated block, and of a block that takes the kind
-pub record IsFreeFor (v : JournaledSpace) (kind : Kind) (frame : ℕ) : Type 0 where
+pub record IsLeasableFor (v : JournaledSpace) (kind : Kind) (frame : ℕ) : Type 0 where
   pub there : frame < frame_count v.sizes
   pub fitting : fits v.sizes v.online kind frame ≡ true
   pub not_out : out_for (state_of v) frame ≡ None

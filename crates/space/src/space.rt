@@ -17,6 +17,7 @@ use std::marker::Model;
 #[derive(Debug, Drop)]
 pub struct Space {
     kept: Kept,
+    // what the space was opened with: contracts see it as the opening, and no call reads it
     start: Vec<StartPage>,
     journal: Vec<SpaceAction>,
     // how many actions may follow without another lease or isolation
@@ -54,7 +55,7 @@ impl Space {
     ghost use Rattle.evac_model.specs.declared.space.IsolateFault.{IsolateFault};
     ghost use Rattle.evac_model.specs.declared.space.LeaseFault.{LeaseFault};
     ghost use Rattle.page_blocks.specs.Marks.{page_and_kind, is_unmovable};
-    ghost use Rattle.space.specs.JournaledSpace.{state_of, with_action, IsFreeFor, AreStartFrames};
+    ghost use Rattle.space.specs.JournaledSpace.{state_of, with_action, IsLeasableFor, AreStartFrames};
     ghost use Rattle.space.specs.SpaceInside.{IsSpace};
     ghost use Rattle.space.specs.Refusals.{frames_out_of, IsFirstOf, Shows, emptiness};
 
@@ -127,10 +128,10 @@ impl Space {
         requires page { page.0 < self.old.sizes.pages }
         ensures leased { IfOk result (λ frame. self.new ≡ with_action (SpaceAction.Lease who frame page kind) self.old) }
         ensures possible { IfOk result (λ frame. IsPossible self.old.sizes self.old.online (state_of self.old) (SpaceAction.Lease who frame page kind)) }
-        ensures free { IfOk result (λ frame. IsFreeFor self.old kind frame.0) }
+        ensures free { IfOk result (λ frame. IsLeasableFor self.old kind frame.0) }
 
         ensures at { (at : ℕ) → result ≡ Err (LeaseFault.NoFrame at) → at ≡ length self.old.journal }
-        ensures none_free { (at frame : ℕ) → result ≡ Err (LeaseFault.NoFrame at) → ¬ IsFreeFor self.old kind frame }
+        ensures none_free { (at frame : ℕ) → result ≡ Err (LeaseFault.NoFrame at) → ¬ IsLeasableFor self.old kind frame }
         ensures err { OnErr result (self.new ≡ self.old) }
     {
         if self.journal.reserve(self.owed + 2).is_err() {
