@@ -1,0 +1,81 @@
+//! What an actor hears and what it does.
+
+use core_state::{MoveStep, Step};
+use evac_model::{FrameNo, Kind, PageNo};
+
+/// What the last action of an actor gave.
+#[derive(Clone, Copy, Debug, PartialEq, Eq)]
+pub enum Heard {
+    /// There was no action before.
+    Start,
+    /// The word that the step found.
+    Word(u64),
+    /// The action gives nothing.
+    Nothing,
+    /// The frame that was leased, which is in the actor's hand now.
+    Leased(FrameNo),
+    /// No frame was leased; the length of the space journal then.
+    NoFrame(u64),
+}
+
+/// What an actor asks of the frame space. A frame changes hands with it.
+#[derive(Clone, Copy, Debug, PartialEq, Eq)]
+pub enum SpaceCall {
+    /// A frame for a page of that kind.
+    Lease {
+        /// The page.
+        page: PageNo,
+        /// The kind.
+        kind: Kind,
+    },
+    /// A frame is given back.
+    Return {
+        /// The frame.
+        frame: FrameNo,
+    },
+}
+
+/// What the lease of an alloc gave.
+#[derive(Clone, Copy, Debug, PartialEq, Eq)]
+pub enum LeaseSeen {
+    /// It wasn't made yet, or the call isn't an alloc.
+    NotAsked,
+    /// A frame.
+    Got {
+        /// The frame.
+        frame: FrameNo,
+    },
+    /// It was refused.
+    Refused {
+        /// The length of the space journal then.
+        at: u64,
+    },
+}
+
+/// How the other actors stand.
+#[derive(Clone, Copy, Debug, PartialEq, Eq)]
+pub struct Others {
+    /// Each owner has ended.
+    pub owners_ended: bool,
+    /// The host has ended.
+    pub host_ended: bool,
+    /// The scanner has made the passes of each migration begun.
+    pub passes_made: bool,
+    /// The host stands at the end of a migration, and the scanner's final pass is to be made.
+    pub final_due: bool,
+    /// That final pass is made.
+    pub final_made: bool,
+}
+
+/// What an actor does at its turn.
+#[derive(Clone, Copy, Debug, PartialEq, Eq)]
+pub enum Action {
+    /// It makes the step.
+    Step(Step),
+    /// It makes the step on the mapping of the page that it holds.
+    Move(MoveStep),
+    /// It asks the frame space.
+    Space(SpaceCall),
+    /// It has made its last step.
+    Ended,
+}
