@@ -8,9 +8,9 @@ use evac_model::{CallList, Cells, FrameNo, Geometry};
 use evac_words::is_taken;
 use std::marker::Model;
 
-/// An owner and its script. It makes each call by a few actions, as `docs/ACTORS.md` says, and begins
-/// a call where the one before has ended and its frame, if one is left, is given back. Contracts see
-/// how it stood before the action that it gave last, since what that one gave isn't heard yet.
+/// An owner and its script. It makes each call by a few actions, as `docs/OWNER_ACTIONS.md` says, and
+/// begins a call where the one before has ended and its frame, if one is left, is given back. Contracts
+/// see how it stood before the action that it gave last, since what that one gave isn't heard yet.
 #[derive(Drop)]
 pub struct Owner {
     geometry: Geometry,
