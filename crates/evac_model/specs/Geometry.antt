@@ -70,7 +70,3 @@ first_frame s b = (s.boot + b) * s.block
 -- the frame is of a boot block, or of a block that is plugged at the start
 abbrev pub IsThereAtStart : Sizes → ℕ → Type 0
 IsThereAtStart s frame = frame < (s.boot + s.plugged) * s.block
-
--- the frame is of a boot block
-abbrev pub IsBootFrame : Sizes → ℕ → Type 0
-IsBootFrame s frame = frame < s.boot * s.block

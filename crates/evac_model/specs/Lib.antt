@@ -15,6 +15,7 @@ pub mod Answer
 pub mod History
 pub mod Laws
 pub mod Scripts
+pub mod Pairing
 pub mod Calls
 pub mod StartPages
 pub mod Turns

@@ -2,6 +2,9 @@
 use Rattle.std.specs.Prelude.{◌≡◌, ℕ, zero, suc, ◌+◌, ◌^◌, ◌<◌, ◌≤◌, ◌⊎◌, ◌==◌, Bool, true, false, List, [], ◌∷◌, ◌++◌, length, map, replicate, sum_by, Contains, Option, None, Some, MatchBool}
 use Rattle.std.specs.List.{AllByRecursion}
 use Rattle.std.specs.Str.Lines.{lines}
+use Rattle.std.specs.Option.{unwrap_or}
+use Rattle.evac_model.specs.declared.names.Kind.{Kind}
+use Rattle.evac_model.specs.declared.names.Kind.TheVariants.{Movable}
 use Rattle.evac_model.specs.declared.names.PageNo.{PageNo}
 use Rattle.evac_model.specs.declared.call.Call.{Call}
 use Rattle.evac_model.specs.declared.scenario.StartPage.{StartPage}
@@ -11,20 +14,27 @@ use Rattle.evac_model.specs.declared.scenario.LineCause.TheVariants.{Empty, Word
 use Rattle.evac_model.specs.declared.scenario.ScenarioFault.{ScenarioFault}
 use Rattle.evac_model.specs.Geometry.{IsWithinLimits, IsThereAtStart, frame_count}
 use Rattle.evac_model.specs.Calls.{IsCallFor}
-use Rattle.evac_model.specs.StartPages.{Takes}
+use Rattle.evac_model.specs.FreeRuns.{fits}
 use Rattle.evac_model.specs.Turns.{IsTurn, turn_count}
-use Rattle.evac_model.specs.ScenarioLines.{Line, MachineLine, PageLine, TurnsLine, DrawLine, CallLine, times, turns_of, Spells, words, AsksUnknown, AsksLater}
+use Rattle.evac_model.specs.ScenarioLines.{Line, MachineLine, OnlineLine, PageLine, TurnsLine, DrawLine, CallLine, times, turns_of, Spells, words, AsksUnknown, AsksLater}
 
 -- A line is judged by what was accepted before it: nothing, or a scenario so far.
 
--- the first line is the machine's, and no other is; turns are drawn by one line at most
+-- the kind of pages that managed blocks are online for: movable ones where no line says it
+abbrev pub online_of : Scenario → Kind
+online_of s = unwrap_or s.online Movable
+
+-- The first line is the machine's, and no other is. One line at most says what managed blocks are online for,
+-- and turns are drawn by one at most.
 abbrev pub IsInOrder : Option Scenario → Line → Type 0
 IsInOrder None (MachineLine sizes) = Unit {0}
+IsInOrder None (OnlineLine kind) = ⊥
 IsInOrder None (PageLine page) = ⊥
 IsInOrder None (TurnsLine turns) = ⊥
 IsInOrder None (DrawLine draw) = ⊥
 IsInOrder None (CallLine owner count page call) = ⊥
 IsInOrder (Some s) (MachineLine sizes) = ⊥
+IsInOrder (Some s) (OnlineLine kind) = s.online ≡ None
 IsInOrder (Some s) (PageLine page) = Unit {0}
 IsInOrder (Some s) (TurnsLine turns) = Unit {0}
 IsInOrder (Some s) (DrawLine draw) = s.drawn ≡ None
@@ -42,6 +52,7 @@ pub record IsCallInRange (s : Scenario) (owner count page : ℕ) (call : Call) :
 -- each number is in its range; the ranges of pages, frames and calls need the geometry
 abbrev pub IsInRange : Option Scenario → Line → Type 0
 IsInRange s (MachineLine sizes) = IsWithinLimits sizes
+IsInRange s (OnlineLine kind) = Unit {0}
 IsInRange s (TurnsLine turns) = AllByRecursion IsTurn (turns_of turns)
 IsInRange s (DrawLine draw) = draw.count ≤ 2 ^ 24
 IsInRange None (PageLine p) = ⊥
@@ -49,15 +60,17 @@ IsInRange None (CallLine owner count page call) = ⊥
 IsInRange (Some s) (PageLine p) = (p.page.0 < s.geometry.pages) × (p.frame.0 < frame_count s.geometry)
 IsInRange (Some s) (CallLine owner count page call) = IsCallInRange s owner (times count) page call
 
--- a start page's page and frame were named by no line before, and the frame is there and takes the page
+-- a start page's page and frame were named by no line before, and the frame is there and takes the page, as
+-- the lines before say what managed blocks are online for
 pub record IsFreeFor (s : Scenario) (p : StartPage) : Type 0 where
   pub page : ¬ Contains (map (λ q. q.page.0) s.start) p.page.0
   pub frame : ¬ Contains (map (λ q. q.frame.0) s.start) p.frame.0
   pub there : IsThereAtStart s.geometry p.frame.0
-  pub kind : Takes s.geometry p.kind p.frame.0
+  pub kind : fits s.geometry (online_of s) p.kind p.frame.0 ≡ true
 
 abbrev pub IsFree : Option Scenario → Line → Type 0
 IsFree s (MachineLine sizes) = Unit {0}
+IsFree s (OnlineLine kind) = Unit {0}
 IsFree None (PageLine p) = ⊥
 IsFree (Some s) (PageLine p) = IsFreeFor s p
 IsFree s (TurnsLine turns) = Unit {0}
@@ -71,6 +84,7 @@ call_count scripts = sum_by length scripts
 -- with this line there are at most 2^20 calls and 2^24 named turns
 abbrev pub HasRoom : Option Scenario → Line → Type 0
 HasRoom s (MachineLine sizes) = Unit {0}
+HasRoom s (OnlineLine kind) = Unit {0}
 HasRoom s (PageLine p) = Unit {0}
 HasRoom s (DrawLine draw) = Unit {0}
 HasRoom None (TurnsLine turns) = ⊥
@@ -88,12 +102,14 @@ with_calls (script ∷ scripts) (suc (suc k)) calls = script ∷ with_calls scri
 
 -- what a line that is accepted adds
 abbrev pub after_line : Option Scenario → Line → Option Scenario
-after_line None (MachineLine sizes) = Some (record { geometry = sizes; start = []; named = []; drawn = None; owners = [] })
+after_line None (MachineLine sizes) = Some (record { geometry = sizes; online = None; start = []; named = []; drawn = None; owners = [] })
+after_line None (OnlineLine kind) = None
 after_line None (PageLine p) = None
 after_line None (TurnsLine turns) = None
 after_line None (DrawLine draw) = None
 after_line None (CallLine owner count page call) = None
 after_line (Some s) (MachineLine sizes) = Some s
+after_line (Some s) (OnlineLine kind) = Some (record s { online = Some kind })
 after_line (Some s) (PageLine p) = Some (record s { start = s.start ++ p ∷ [] })
 after_line (Some s) (TurnsLine turns) = Some (record s { named = s.named ++ turns_of turns })
 after_line (Some s) (DrawLine draw) = Some (record s { drawn = Some draw })

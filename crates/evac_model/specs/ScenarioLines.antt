@@ -4,13 +4,14 @@ use Rattle.std.specs.List.{AllByRecursion, slice_split}
 use Rattle.std.specs.Fmt.{decimal}
 use Rattle.evac_model.specs.declared.call.Call.{Call}
 use Rattle.evac_model.specs.declared.call.Call.TheVariants.{Alloc, Free, Read, Write, Add, Pin, Unpin}
+use Rattle.evac_model.specs.declared.names.Kind.{Kind}
 use Rattle.evac_model.specs.declared.scenario.StartPage.{StartPage}
 use Rattle.evac_model.specs.declared.scenario.Actor.{Actor}
 use Rattle.evac_model.specs.declared.scenario.Actor.TheVariants.{Owner, Host, Scanner}
 use Rattle.evac_model.specs.declared.scenario.Turn.{Turn}
 use Rattle.evac_model.specs.declared.scenario.Drawn.{Drawn}
 use Rattle.evac_model.specs.Geometry.{Sizes}
-use Rattle.evac_model.specs.Spelling.{kind_word, call_words, turn_word, count_words, spaced}
+use Rattle.evac_model.specs.Spelling.{kind_word, online_word, call_words, turn_word, count_words, spaced}
 
 -- turns of an actor as a line names them: their count may be written, and else is one
 pub record NamedTurn : Type 0 where
@@ -20,6 +21,7 @@ pub record NamedTurn : Type 0 where
 -- a line, with its numbers as they are written; a count of calls may be written, and else is one
 pub data Line : Type 0 where
   MachineLine : (sizes : Sizes) → Line
+  OnlineLine : (kind : Kind) → Line
   PageLine : (page : StartPage) → Line
   TurnsLine : (turns : List NamedTurn) → Line
   DrawLine : (draw : Drawn) → Line
@@ -36,6 +38,7 @@ turns_of turns = map (λ t. record { actor = t.actor; count = times t.count }) t
 
 abbrev pub words_of : Line → List (List ℕ)
 words_of (MachineLine s) = codes "machine" ∷ map decimal (s.cells ∷ s.block ∷ s.boot ∷ s.managed ∷ s.plugged ∷ s.pages ∷ [])
+words_of (OnlineLine kind) = codes "online" ∷ online_word kind ∷ []
 words_of (PageLine p) = codes "page" ∷ decimal p.page.0 ∷ kind_word p.kind ∷ decimal p.frame.0 ∷ []
 words_of (TurnsLine turns) = codes "turns" ∷ map (λ t. turn_word t.actor t.count) turns
 words_of (DrawLine d) = codes "draw" ∷ decimal d.number ∷ decimal d.count ∷ []
@@ -68,6 +71,7 @@ HasTurnNumbers t = HasActorNumber t.actor × IfSome t.count IsNumber
 -- each number is one of 64 bits, and a line of turns names some
 abbrev pub Fits : Line → Type 0
 Fits (MachineLine s) = AllByRecursion IsNumber (s.cells ∷ s.block ∷ s.boot ∷ s.managed ∷ s.plugged ∷ s.pages ∷ [])
+Fits (OnlineLine kind) = Unit {0}
 Fits (PageLine p) = IsNumber p.page.0 × IsNumber p.frame.0
 Fits (TurnsLine turns) = (1 ≤ length turns) × AllByRecursion HasTurnNumbers turns
 Fits (DrawLine d) = IsNumber d.number × IsNumber d.count
@@ -94,10 +98,7 @@ command_names = codes "resize" ∷ codes "request" ∷ codes "config" ∷ codes 
 
 -- those that this program doesn't read yet
 abbrev pub later_lines : List (List ℕ)
-later_lines = codes "online" ∷ codes "fail" ∷ codes "host" ∷ []
-
-abbrev pub later_calls : List (List ℕ)
-later_calls = codes "alloc" ∷ codes "free" ∷ []
+later_lines = codes "fail" ∷ codes "host" ∷ []
 
 -- an owner's number: the decimal text of a number
 abbrev pub IsOwnerWord : List ℕ → Type 0
@@ -128,7 +129,7 @@ AsksUnknown [] = ⊥
 AsksUnknown (word ∷ rest) =
     (IsNoneOf line_names word × (¬ IsOwnerWord word)) ⊎ ((IsOwnerWord word × CallWord (IsNoneOf call_names) rest) ⊎ ((word ≡ codes "host") × First (IsNoneOf command_names) rest))
 
--- what the line asks for isn't read yet: such a line, or such a call
+-- what the line asks for isn't read yet
 abbrev pub AsksLater : List (List ℕ) → Type 0
 AsksLater [] = ⊥
-AsksLater (word ∷ rest) = Contains later_lines word ⊎ (IsOwnerWord word × CallWord (Contains later_calls) rest)
+AsksLater (word ∷ rest) = Contains later_lines word

@@ -1,38 +1,28 @@
 -- What every scenario that is read has.
-use Rattle.std.specs.Prelude.{◌^◌, ◌<◌, ◌≤◌, length, IfSome}
+use Rattle.std.specs.Prelude.{◌≡◌, ◌^◌, ◌<◌, ◌≤◌, true, length, IfSome}
 use Rattle.std.specs.List.{AllByRecursion}
 use Rattle.evac_model.specs.declared.names.PageNo.{PageNo}
 use Rattle.evac_model.specs.declared.call.Call.{Call}
-use Rattle.evac_model.specs.declared.call.Call.TheVariants.{Alloc, Free, Read, Write, Add, Pin, Unpin}
 use Rattle.evac_model.specs.declared.scenario.Scenario.{Scenario}
 use Rattle.evac_model.specs.Geometry.{Sizes, IsWithinLimits}
 use Rattle.evac_model.specs.Calls.{IsCallFor}
+use Rattle.evac_model.specs.FreeRuns.{fits}
 use Rattle.evac_model.specs.StartPages.{AreStartPages}
 use Rattle.evac_model.specs.Turns.{IsTurn, turn_count, IsDraw}
 use Rattle.evac_model.specs.ScenarioLines.{HasNumbers}
-use Rattle.evac_model.specs.ScenarioGrammar.{call_count}
-
--- a call that is built: all but those that map and unmap, so far
-abbrev pub IsBuilt : Call → Type 0
-IsBuilt (Alloc kind) = ⊥
-IsBuilt Free = ⊥
-IsBuilt (Read first count) = Unit {0}
-IsBuilt (Write first values) = Unit {0}
-IsBuilt (Add cell value) = Unit {0}
-IsBuilt Pin = Unit {0}
-IsBuilt Unpin = Unit {0}
+use Rattle.evac_model.specs.ScenarioGrammar.{online_of, call_count}
 
 -- a call that an owner of the machine may make, with numbers of 64 bits
 pub record IsOwnerCall (s : Sizes) (c : PageNo × Call) : Type 0 where
   pub page : c.0.0 < s.pages
   pub call : IsCallFor s c.1
-  pub built : IsBuilt c.1
   pub numbers : HasNumbers c.1
 
 -- a scenario that can be run
 pub record IsRunnable (s : Scenario) : Type 0 where
   pub limits : IsWithinLimits s.geometry
   pub start : AreStartPages s.geometry s.start
+  pub kinds : AllByRecursion (λ p. fits s.geometry (online_of s) p.kind p.frame.0 ≡ true) s.start
   pub named : AllByRecursion IsTurn s.named
   pub turns : turn_count s.named ≤ 2 ^ 24
   pub drawn : IfSome s.drawn IsDraw

@@ -41,6 +41,14 @@ abbrev pub free_frames : Sizes → SpaceState → List ℕ
 free_frames s st =
     numbers_where (λ frame. not (is_some (out_for st frame)) && not (is_frame_in s st.isolated frame) && not (list_any (is_in frame) st.caches)) (frame_count s)
 
+-- a frame that a lease for a page of the kind may give: of a block that takes it, not out, and in no isolated
+-- block
+pub record IsLeasable (s : Sizes) (online : Kind) (st : SpaceState) (kind : Kind) (frame : ℕ) : Type 0 where
+  pub there : frame < frame_count s
+  pub fitting : fits s online kind frame ≡ true
+  pub not_out : out_for st frame ≡ None
+  pub not_isolated : is_frame_in s st.isolated frame ≡ false
+
 -- a lease: the frame, and the caches behind it
 pub record Leased : Type 0 where
   pub frame : ℕ

@@ -13,6 +13,11 @@ abbrev pub kind_word : Kind → List ℕ
 kind_word Movable = codes "movable"
 kind_word Unmovable = codes "unmovable"
 
+-- what managed blocks are online for: movable pages alone, or the kernel's, which can't be moved, too
+abbrev pub online_word : Kind → List ℕ
+online_word Movable = codes "movable"
+online_word Unmovable = codes "kernel"
+
 -- the words of a call on a page
 abbrev pub call_words : ℕ → Call → List (List ℕ)
 call_words page (Alloc kind) = codes "alloc" ∷ decimal page ∷ kind_word kind ∷ []

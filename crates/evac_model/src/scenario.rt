@@ -62,6 +62,9 @@ pub type ScriptList = Listed<CallList>;
 pub struct Scenario {
     /// The sizes of the machine.
     pub geometry: Geometry,
+    /// What managed blocks are online for, after Linux's `online_movable` and `online_kernel`, where a
+    /// line says it: movable pages alone, which is so too where no line says it, or pages of both kinds.
+    pub online: Option<Kind>,
     /// The pages that are mapped at the start.
     pub start: StartPageList,
     /// The turns that are named, before all others.
