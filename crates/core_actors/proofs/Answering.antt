@@ -1,10 +1,10 @@
 -- The release of a call answers it, whatever page was taken.
-use Rattle.std.proofs.Common.{◌≡◌, ℕ, eq-eqb, ne_eqb, ◌+◌, ◌-◌, ◌%◌, ◌^◌, ◌<◌, ◌≤◌, ◌==◌, List, [], ◌∷◌, length, take, drop, get_or, set, refl, sym, ap, ◌∙◌, arith, Option, Some, None, if◌then◌else◌}
+use Rattle.std.proofs.Common.{◌≡◌, ◌≢◌, ℕ, eq-eqb, ne_eqb, ◌+◌, ◌-◌, ◌%◌, ◌^◌, ◌<◌, ◌≤◌, ◌==◌, List, [], ◌∷◌, length, take, drop, get_or, set, refl, sym, ap, ◌∙◌, arith, Option, Some, None, if◌then◌else◌}
 use mathlib.Core.Logic.{dite}
 use native.Mathlib.Decide.{ℕ_discrete}
 use Rattle.evac_model.specs.declared.call.Call.{Call}
 use Rattle.evac_model.specs.declared.call.Call.TheVariants.{Alloc, Free, Read, Write, Add, Pin, Unpin}
-use Rattle.evac_model.specs.declared.reply.Reply.TheVariants.{Done, Values, Old, NotMapped, PinLimit, NotPinned}
+use Rattle.evac_model.specs.declared.reply.Reply.TheVariants.{Done, Values, Old, Mapped, Pinned, PinLimit, NotPinned}
 use Rattle.evac_model.specs.Geometry.{Sizes}
 use Rattle.evac_model.specs.Calls.{IsCallFor}
 use Rattle.evac_model.specs.Page.{PlainPage, Page}
@@ -12,30 +12,72 @@ use Rattle.evac_model.specs.Answer.{written}
 use Rattle.evac_words.specs.Word.{mapped_bit, pins_of}
 use Rattle.core_state.specs.Pages.{answer_at, Agrees, patched, with_stores, with_pins}
 use Rattle.core_state.specs.Steps.{pins_after}
-use Rattle.core_actors.specs.CallSteps.{HasSteps, first_cell, load_count, values_of, mapped_reply, reply_of}
+use Rattle.core_actors.specs.declared.action.LeaseSeen.{LeaseSeen}
+use Rattle.core_actors.specs.declared.action.LeaseSeen.TheVariants.{NotAsked, Got, Refused}
+use Rattle.core_actors.specs.CallSteps.{first_cell, load_count, values_of, mapped_reply, unmapped_reply, reply_of}
 use Rattle.core_actors.specs.Fits.{known_from}
 use Rattle.core_actors.proofs.Known.{known_from-at, known_from-none, known_from-patched, patched_by_nothing, written_one, read_back}
 
-pub reply-mapped : (found : ℕ) (loads : List ℕ) (call : Call) → mapped_bit found ≡ 1 → reply_of found loads call ≡ mapped_reply (pins_of found) loads call
-reply-mapped found loads call e = ap (λ (k : ℕ). if k == 1 then mapped_reply (pins_of found) loads call else NotMapped) e
+pub reply-mapped : (lease : LeaseSeen) (found : ℕ) (loads : List ℕ) (call : Call) → mapped_bit found ≡ 1 → reply_of lease found loads call ≡ mapped_reply (pins_of found) loads call
+reply-mapped lease found loads call e = ap (λ (k : ℕ). if k == 1 then mapped_reply (pins_of found) loads call else unmapped_reply lease call) e
 
-pub reply-unmapped : (found : ℕ) (loads : List ℕ) (call : Call) → mapped_bit found ≡ 0 → reply_of found loads call ≡ NotMapped
-reply-unmapped found loads call e = ap (λ (k : ℕ). if k == 1 then mapped_reply (pins_of found) loads call else NotMapped) e
+pub reply-unmapped : (lease : LeaseSeen) (found : ℕ) (loads : List ℕ) (call : Call) → mapped_bit found ≡ 0 → reply_of lease found loads call ≡ unmapped_reply lease call
+reply-unmapped lease found loads call e = ap (λ (k : ℕ). if k == 1 then mapped_reply (pins_of found) loads call else unmapped_reply lease call) e
+
+-- ---- the calls that leave the mapping as it is
+
+-- a free of a page with pins
+abbrev pub KeepsMapped : (pins : ℕ) → Call → Type 0
+KeepsMapped pins (Alloc kind) = Unit {0}
+KeepsMapped pins Free = 0 < pins
+KeepsMapped pins (Read first count) = Unit {0}
+KeepsMapped pins (Write first values) = Unit {0}
+KeepsMapped pins (Add cell value) = Unit {0}
+KeepsMapped pins Pin = Unit {0}
+KeepsMapped pins Unpin = Unit {0}
+
+abbrev pub IsRefused : LeaseSeen → Type 0
+IsRefused NotAsked = ⊥
+IsRefused (Got frame) = ⊥
+IsRefused (Refused at) = Unit {0}
+
+-- an alloc whose lease was refused
+abbrev pub KeepsUnmapped : LeaseSeen → Call → Type 0
+KeepsUnmapped lease (Alloc kind) = IsRefused lease
+KeepsUnmapped lease Free = Unit {0}
+KeepsUnmapped lease (Read first count) = Unit {0}
+KeepsUnmapped lease (Write first values) = Unit {0}
+KeepsUnmapped lease (Add cell value) = Unit {0}
+KeepsUnmapped lease Pin = Unit {0}
+KeepsUnmapped lease Unpin = Unit {0}
 
 -- ---- pins
 
-pub pins_few : (pins : ℕ) (loads : List ℕ) (call : Call) → HasSteps call → pins ≤ 63 → pins_after call (mapped_reply pins loads call) pins ≤ 63
-pins_few pins loads (Alloc kind) has le = absurd has
-pins_few pins loads Free has le = absurd has
-pins_few pins loads (Read first count) has le = le
-pins_few pins loads (Write first values) has le = le
-pins_few pins loads (Add cell value) has le = le
-pins_few pins loads Pin has le = dite (ℕ_discrete pins 63)
+pub pins_few : (pins : ℕ) (loads : List ℕ) (call : Call) → pins ≤ 63 → pins_after call (mapped_reply pins loads call) pins ≤ 63
+pins_few pins loads (Alloc kind) le = le
+pins_few pins loads Free le = dite (ℕ_discrete pins 0)
+    (λ none. rw (eq-eqb pins 0 none) le)
+    (λ some. rw (ne_eqb pins 0 some) le)
+pins_few pins loads (Read first count) le = le
+pins_few pins loads (Write first values) le = le
+pins_few pins loads (Add cell value) le = le
+pins_few pins loads Pin le = dite (ℕ_discrete pins 63)
     (λ full. rw (eq-eqb pins 63 full) le)
     (λ room. rw (ne_eqb pins 63 room) (omega arith))
-pins_few pins loads Unpin has le = dite (ℕ_discrete pins 0)
+pins_few pins loads Unpin le = dite (ℕ_discrete pins 0)
     (λ none. rw (eq-eqb pins 0 none) le)
     (λ some. rw (ne_eqb pins 0 some) (omega arith))
+
+pub pins-unmapped : (lease : LeaseSeen) (pins : ℕ) (call : Call) → pins_after call (unmapped_reply lease call) pins ≡ pins
+pins-unmapped NotAsked pins (Alloc kind) = refl
+pins-unmapped (Got frame) pins (Alloc kind) = refl
+pins-unmapped (Refused at) pins (Alloc kind) = refl
+pins-unmapped lease pins Free = refl
+pins-unmapped lease pins (Read first count) = refl
+pins-unmapped lease pins (Write first values) = refl
+pins-unmapped lease pins (Add cell value) = refl
+pins-unmapped lease pins Pin = refl
+pins-unmapped lease pins Unpin = refl
 
 -- ---- a mapped page
 
@@ -50,11 +92,16 @@ module _ (s : Sizes) (cells pins : ℕ) (loads : List ℕ) (m : PlainPage) (same
   agreed : (first i : ℕ) → Agrees (known_from cells first loads) m.cells → i < length loads → first + length loads ≤ cells → get_or m.cells (first + i) 0 ≡ get_or loads i 0
   agreed first i a lt le = a (first + i) (get_or loads i 0) (known_from-at cells first loads i lt le)
 
-  pub answers-mapped : (call : Call) → IsCallFor s call → HasSteps call → length loads ≡ load_count call → Agrees (known_from cells (first_cell call) loads) m.cells
+  pub answers-mapped : (call : Call) → IsCallFor s call → KeepsMapped pins call → length loads ≡ load_count call → Agrees (known_from cells (first_cell call) loads) m.cells
       → answer_at cells (Some m) call (mapped_reply pins loads call)
       ≡ (mapped_reply pins loads call, left_with (pins_after call (mapped_reply pins loads call) pins) (known_from cells (first_cell call) (values_of loads call)) m)
-  answers-mapped (Alloc kind) fits has many a = absurd has
-  answers-mapped Free fits has many a = absurd has
+  answers-mapped (Alloc kind) fits has many a =
+      let kept = untouched 0 (omega arith) in
+      λ i. (Mapped, Some (record { cells = kept i; kind = m.kind; pins = sym pins_are i }))
+  answers-mapped Free fits has many a =
+      let kept = untouched 0 (omega arith) in
+      let some : pins ≢ 0 = omega arith in
+      rw (ne_eqb pins 0 some, ne_eqb m.pins 0 (λ e. some (pins_are ∙ e))) (λ i. (Pinned, Some (record { cells = kept i; kind = m.kind; pins = sym pins_are i })))
   answers-mapped (Read first count) fits has many a =
       let within = fits.2 in
       let read : take count (drop first m.cells) ≡ loads = ap (λ (n : ℕ). take n (drop first m.cells)) (sym many) ∙ read_back m.cells first loads (omega arith) (λ i lt. agreed first i a lt (omega arith)) in
@@ -85,11 +132,14 @@ module _ (s : Sizes) (cells pins : ℕ) (loads : List ℕ) (m : PlainPage) (same
 
 -- ---- an unmapped page
 
-pub answers-unmapped : (n : ℕ) (call : Call) (stores : List (Option ℕ)) (pins : ℕ) → HasSteps call → answer_at n None call NotMapped ≡ (NotMapped, with_pins pins (with_stores stores None))
-answers-unmapped n (Alloc kind) stores pins has = absurd has
-answers-unmapped n Free stores pins has = absurd has
-answers-unmapped n (Read first count) stores pins has = refl
-answers-unmapped n (Write first values) stores pins has = refl
-answers-unmapped n (Add cell value) stores pins has = refl
-answers-unmapped n Pin stores pins has = refl
-answers-unmapped n Unpin stores pins has = refl
+pub answers-unmapped : (n : ℕ) (lease : LeaseSeen) (call : Call) (stores : List (Option ℕ)) (pins : ℕ) → KeepsUnmapped lease call
+    → answer_at n None call (unmapped_reply lease call) ≡ (unmapped_reply lease call, with_pins pins (with_stores stores None))
+answers-unmapped n NotAsked (Alloc kind) stores pins has = absurd has
+answers-unmapped n (Got frame) (Alloc kind) stores pins has = absurd has
+answers-unmapped n (Refused at) (Alloc kind) stores pins has = refl
+answers-unmapped n lease Free stores pins has = refl
+answers-unmapped n lease (Read first count) stores pins has = refl
+answers-unmapped n lease (Write first values) stores pins has = refl
+answers-unmapped n lease (Add cell value) stores pins has = refl
+answers-unmapped n lease Pin stores pins has = refl
+answers-unmapped n lease Unpin stores pins has = refl

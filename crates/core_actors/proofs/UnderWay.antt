@@ -1,196 +1,183 @@
--- An owner stays under way, and has fewer steps left after each.
-use Rattle.std.proofs.Common.{◌≡◌, ◌↔◌, ℕ, suc, ◌+◌, ◌*◌, ◌<◌, ◌≤◌, min, true, false, List, [], ◌∷◌, ◌++◌, length, length-append, refl, ap, ◌∙◌, arith, suc-mul}
-use Rattle.std.specs.List.{AllByRecursion, sum_by}
-use Rattle.std.proofs.lemmas.List.Sums.{sum_by-cons}
+-- An owner stays under way after each of its actions.
+use Rattle.std.proofs.Common.{◌≡◌, ◌≢◌, ◌⊎◌, inl, inr, ⊎_elim, ℕ, ◌+◌, ◌-◌, ◌<◌, ◌≤◌, min, List, [], ◌∷◌, ◌++◌, length, length-append, refl, sym, ap, ◌∙◌, subst, arith, Option, None, Some}
 use mathlib.Core.Logic.{dite}
-use native.Mathlib.Decide.{ℕ_discrete}
+use native.Mathlib.Decide.{ℕ_discrete, dec_lt}
+use Rattle.evac_model.specs.declared.names.FrameNo.{FrameNo}
+use Rattle.evac_model.specs.declared.names.Kind.{Kind}
 use Rattle.evac_model.specs.declared.names.PageNo.{PageNo}
 use Rattle.evac_model.specs.declared.call.Call.{Call}
 use Rattle.evac_model.specs.declared.call.Call.TheVariants.{Alloc, Free, Read, Write, Add, Pin, Unpin}
-use Rattle.evac_model.specs.Geometry.{Sizes}
-use Rattle.evac_model.specs.Calls.{IsCallFor}
-use Rattle.evac_words.specs.Word.{taken_bit, mapped_bit}
+use Rattle.evac_words.specs.Word.{taken_bit}
+use Rattle.core_state.specs.declared.step.MoveStep.{MoveStep}
 use Rattle.core_state.specs.declared.step.Step.{Step}
 use Rattle.core_state.specs.declared.step.Step.TheVariants.{Take, Draw, Load, Store, Mark, Release}
-use Rattle.core_actors.specs.CallSteps.{IsCallOf, load_count, values_of, middle_steps, call_steps}
-use Rattle.core_actors.specs.Owners.{OwnerState, owner_at_start, owner_ended, next_step, after_step, owner_after}
-use Rattle.core_actors.specs.Actions.{ends_with_next}
-use Rattle.core_actors.specs.Counts.{most_steps, steps_left, IsUnderWayIn, IsUnderWay, FindsTaken}
-use Rattle.core_actors.proofs.StepKinds.{length-alike, values-length, middle-mapped, middle-unmapped, length-call_steps, the_frame, StepKind, takes, draws, loads_cell, stores_cell, marks, releases, kind_at}
+use Rattle.core_actors.specs.declared.action.Action.{Action}
+use Rattle.core_actors.specs.declared.action.Action.TheVariants as actions
+use Rattle.core_actors.specs.declared.action.Heard.{Heard}
+use Rattle.core_actors.specs.declared.action.Heard.TheVariants.{Nothing, Leased, NoFrame}
+use Rattle.core_actors.specs.declared.action.LeaseSeen.{LeaseSeen}
+use Rattle.core_actors.specs.declared.action.LeaseSeen.TheVariants.{NotAsked}
+use Rattle.core_actors.specs.declared.action.SpaceCall.TheVariants.{Lease, Return}
+use Rattle.core_actors.specs.CallSteps.{load_count, lead_actions, call_actions}
+use Rattle.core_actors.specs.Owners.{OwnerState, before_call, next_action, word_in, lease_in, after_step, after_action, owner_after}
+use Rattle.core_actors.specs.Counts.{HeardOfLease, IsUnderWayIn, IsUnderWay}
+use Rattle.core_actors.proofs.Stands.{IsAlloc, Between, StandsHere, stands, lead-some, lead-none, length-call, length-call-alike}
 
--- ---- how many steps a call has
+-- ---- before a call
 
--- the steps between the draw and the release of a call on a mapped page
-abbrev pub between : Call → ℕ
-between call = load_count call + (length (values_of [] call) + min (length (values_of [] call)) 1)
+heard_first : (call : Call) → HeardOfLease call 0 NotAsked
+heard_first (Alloc kind) = ((λ e. refl), (λ e. refl))
+heard_first Free = refl
+heard_first (Read first count) = refl
+heard_first (Write first values) = refl
+heard_first (Add cell value) = refl
+heard_first Pin = refl
+heard_first Unpin = refl
 
-module _ (s : Sizes) (c : PageNo × Call) (fits : IsCallFor s c.1) (found : ℕ) (loads : List ℕ) where
-  pub middle-length : mapped_bit found ≡ 1 → length (middle_steps found loads c.1) ≡ between c.1
-  middle-length mapped = ap (λ (l : List Step). length l) (middle-mapped c found loads s fits mapped) ∙ (let a = length-alike (the_frame c found loads) loads c.1 in let b = values-length loads [] c.1 in omega arith)
+before_call-in : (owner cells : ℕ) (calls : List (PageNo × Call)) (back : Option FrameNo) → IsUnderWayIn calls (before_call owner cells calls back)
+before_call-in owner cells [] back = refl
+before_call-in owner cells (c ∷ cs) back = let long = length-call cells c.0 c.1 NotAsked 0 [] in (omega arith, omega arith, heard_first c.1)
 
-  pub middle-most : length (middle_steps found loads c.1) ≤ between c.1
-  middle-most = dite (ℕ_discrete (mapped_bit found) 1)
-      (λ mapped. let e = middle-length mapped in omega arith)
-      (λ no. let none : length (middle_steps found loads c.1) ≡ 0 = ap (λ (l : List Step). length l) (middle-unmapped c found loads (omega arith)) in omega arith)
+pub before_call-way : (owner cells : ℕ) (calls : List (PageNo × Call)) (back : Option FrameNo) → IsUnderWay (before_call owner cells calls back)
+before_call-way owner cells calls back = record { call = before_call-in owner cells calls back; back_first = λ some. refl }
 
-between-most : (s : Sizes) (call : Call) → IsCallFor s call → between call + 3 ≡ most_steps call
-between-most s (Alloc kind) fits = refl
-between-most s Free fits = refl
-between-most s (Read first count) fits = omega arith
-between-most s (Write first values) fits = let one = fits.0 in omega arith
-between-most s (Add cell value) fits = refl
-between-most s Pin fits = refl
-between-most s Unpin fits = refl
+-- ---- what was heard of the lease
 
-most_steps-few : (s : Sizes) (call : Call) → IsCallFor s call → most_steps call ≤ s.cells + 6
-most_steps-few s (Alloc kind) fits = omega arith
-most_steps-few s Free fits = omega arith
-most_steps-few s (Read first count) fits = let few = fits.2 in omega arith
-most_steps-few s (Write first values) fits = let few = fits.2 in omega arith
-most_steps-few s (Add cell value) fits = omega arith
-most_steps-few s Pin fits = omega arith
-most_steps-few s Unpin fits = omega arith
+heard_more : (call : Call) (made : ℕ) (lease : LeaseSeen) → (IsAlloc call → 0 < made) → HeardOfLease call made lease → HeardOfLease call (made + 1) lease
+heard_more (Alloc kind) made lease later heard = let some = later tt in ((λ e. let z = heard.0 e in absurd (omega arith)), (λ e. absurd (omega arith)))
+heard_more Free made lease later heard = heard
+heard_more (Read first count) made lease later heard = heard
+heard_more (Write first values) made lease later heard = heard
+heard_more (Add cell value) made lease later heard = heard
+heard_more Pin made lease later heard = heard
+heard_more Unpin made lease later heard = heard
 
--- ---- under way
+heard_once : (call : Call) (lease : LeaseSeen) → IsAlloc call → lease ≢ NotAsked → HeardOfLease call (0 + 1) lease
+heard_once (Alloc kind) lease is other = ((λ e. absurd (other e)), (λ e. absurd (omega arith)))
+heard_once Free lease is other = absurd is
+heard_once (Read first count) lease is other = absurd is
+heard_once (Write first values) lease is other = absurd is
+heard_once (Add cell value) lease is other = absurd is
+heard_once Pin lease is other = absurd is
+heard_once Unpin lease is other = absurd is
 
-pub start_under_way : (owner : ℕ) (script : List (PageNo × Call)) → IsUnderWay (owner_at_start owner script)
-start_under_way owner [] = refl
-start_under_way owner (c ∷ cs) =
-    let long = length-call_steps c 0 [] in
-    (omega arith, omega arith)
+alloc_loads-none : (call : Call) → IsAlloc call → load_count call ≡ 0
+alloc_loads-none (Alloc kind) is = refl
+alloc_loads-none Free is = absurd is
+alloc_loads-none (Read first count) is = absurd is
+alloc_loads-none (Write first values) is = absurd is
+alloc_loads-none (Add cell value) is = absurd is
+alloc_loads-none Pin is = absurd is
+alloc_loads-none Unpin is = absurd is
 
-module _ (s : Sizes) (owner : ℕ) (c : PageNo × Call) (cs : List (PageNo × Call)) (found : ℕ) (loads : List ℕ) (made : ℕ) where
-  abbrev the_state : OwnerState
-  the_state = record { owner = owner; left = c ∷ cs; found = found; loads = loads; made = made }
+-- ---- in a call
 
-  step_kept : (word : ℕ) → IsCallFor s c.1 → IsUnderWay the_state → StepKind c found loads made → IsUnderWay (after_step the_state word (next_step the_state))
-  step_kept word fits way (takes at is) = rw is (dite (ℕ_discrete (taken_bit word) 0)
-      (λ free. rw free (let long = length-call_steps c word loads in let some = way.1 in (omega arith, omega arith)))
-      (λ not_free. let one : taken_bit word ≡ 1 = omega arith in rw one way))
-  step_kept word fits way (draws at is) = rw is (let long = length-call_steps c found loads in let some = way.1 in (omega arith, omega arith))
-  step_kept word fits way (loads_cell i at lt mapped is) = rw is (
-      let long = length-call_steps c found (loads ++ word ∷ []) in
-      let many = middle-length s c fits found (loads ++ word ∷ []) mapped in
-      let more = length-append loads (word ∷ []) in
-      let some = way.1 in
-      (omega arith, omega arith))
-  step_kept word fits way (stores_cell j at lt mapped is) = rw is (
-      let long = length-call_steps c found loads in
-      let many = middle-length s c fits found loads mapped in
-      let same = values-length loads [] c.1 in
-      let some = way.1 in
-      (omega arith, omega arith))
-  step_kept word fits way (marks at lt mapped is) = rw is (
-      let long = length-call_steps c found loads in
-      let many = middle-length s c fits found loads mapped in
-      let same = values-length loads [] c.1 in
-      let some = way.1 in
-      (omega arith, omega arith))
-  step_kept word fits way (releases at is) = rw is (start_under_way owner cs)
+module _ (owner cells : ℕ) (c : PageNo × Call) (cs : List (PageNo × Call)) (lease : LeaseSeen) (found : ℕ) (loads : List ℕ) (made : ℕ) where
+  abbrev pub in_call : OwnerState
+  in_call = record { owner = owner; cells = cells; left = c ∷ cs; lease = lease; found = found; loads = loads; made = made; back = None }
 
-module _ (s : Sizes) (owner found : ℕ) (loads : List ℕ) (made : ℕ) where
-  stays : (left : List (PageNo × Call)) (word : ℕ) → AllByRecursion (λ c. IsCallOf s c) left → IsUnderWayIn left (record { owner = owner; left = left; found = found; loads = loads; made = made })
-      → IsUnderWay (owner_after (record { owner = owner; left = left; found = found; loads = loads; made = made }) word)
-  stays [] word all way = way
-  stays (c ∷ cs) word all way = step_kept s owner c cs found loads made word (all.0).call way (kind_at c found loads s (all.0).call made way.0)
+  abbrev pub StandsNow : Action → Type 0
+  StandsNow = StandsHere cells c.0 c.1 lease found loads made
 
-pub stays_under_way : (s : Sizes) (a : OwnerState) (found : ℕ) → AllByRecursion (λ c. IsCallOf s c) a.left → IsUnderWay a → IsUnderWay (owner_after a found)
-stays_under_way s a word all way = stays s a.owner a.found a.loads a.made a.left word all way
+  pub stands_now : IsUnderWay in_call → StandsNow (next_action in_call)
+  stands_now way = stands cells c.0 c.1 lease found loads made way.call.0
 
--- ---- the steps left
+  -- with loads, the take is the first action
+  no_loads_yet : (n : ℕ) → n ≡ length (lead_actions cells c.0 c.1 lease) ⊎ n ≡ length (lead_actions cells c.0 c.1 lease) + 1 → min (n + 1 - 2) (load_count c.1) ≡ min (n - 2) (load_count c.1)
+  no_loads_yet n at = dite (dec_lt 0 (load_count c.1))
+      (λ some. let first = lead-none cells c.0 c.1 lease some in ⊎_elim (λ e. omega arith) (λ e. omega arith) at)
+      (λ none. omega arith)
 
-few_left : (s : Sizes) (calls : List (PageNo × Call)) → AllByRecursion (λ c. IsCallOf s c) calls → sum_by (λ c. most_steps c.1) calls ≤ length calls * (s.cells + 6)
-few_left s [] all = omega arith
-few_left s (c ∷ cs) all =
-    let head = most_steps-few s c.1 (all.0).call in
-    let rest = few_left s cs all.1 in
-    let sum = sum_by-cons (λ (x : PageNo × Call). most_steps x.1) c cs in
-    let product : suc (length cs) * (s.cells + 6) ≡ length cs * (s.cells + 6) + (s.cells + 6) = omega (arith, suc-mul (length cs) (s.cells + 6)) in
-    omega arith
+  after_take-way : (word : ℕ) → IsUnderWay in_call → made ≡ length (lead_actions cells c.0 c.1 lease) → IsUnderWay (record in_call { found = word; made = made + 1 })
+  after_take-way word way at =
+      let long = length-call cells c.0 c.1 lease word loads in
+      let same = no_loads_yet made (inl at) in
+      let heard = heard_more c.1 made lease (λ is. let some = lead-some cells c.0 c.1 lease is in omega arith) way.call.2 in
+      let many = way.call.1 in
+      record { call = (omega arith, many ∙ sym same, heard); back_first = λ some. absurd (some refl) }
 
-pub few_steps_left : (s : Sizes) (a : OwnerState) → AllByRecursion (λ c. IsCallOf s c) a.left → steps_left a ≤ length a.left * (s.cells + 6)
-few_steps_left s a all = let few = few_left s a.left all in omega arith
+  one_made-way : 0 < made → min (made + 1 - 2) (load_count c.1) ≡ min (made - 2) (load_count c.1) → made + 1 < length (call_actions cells c.0 c.1 lease found loads) → IsUnderWay in_call
+      → IsUnderWay (record in_call { made = made + 1 })
+  one_made-way later same more way =
+      let many = way.call.1 in
+      record { call = (more, many ∙ sym same, heard_more c.1 made lease (λ is. later) way.call.2); back_first = λ some. absurd (some refl) }
 
-module _ (s : Sizes) (c : PageNo × Call) (fits : IsCallFor s c.1) (found : ℕ) (loads : List ℕ) where
-  -- the steps made are fewer than the most that the call has
-  pub below_most : (made : ℕ) → made < length (call_steps c.0 c.1 found loads) → made < most_steps c.1
-  below_most made lt =
-      let long = length-call_steps c found loads in
-      let most = middle-most s c fits found loads in
-      let same = between-most s c.1 fits in
-      omega arith
+  between-way : Between c.1 made (length (call_actions cells c.0 c.1 lease found loads)) → IsUnderWay in_call → IsUnderWay (record in_call { made = made + 1 })
+  between-way at way = let e : made + 1 - 2 ≡ made - 1 = omega arith in one_made-way at.0 (ap (λ (k : ℕ). min k (load_count c.1)) e ∙ at.1) at.2 way
 
-module _ (s : Sizes) (owner : ℕ) (c : PageNo × Call) (cs : List (PageNo × Call)) (found : ℕ) (loads : List ℕ) (made : ℕ) (below : made < most_steps c.1) where
-  step_fewer : (word : ℕ) → StepKind c found loads made → ¬ FindsTaken (next_step (the_state s owner c cs found loads made)) word
-      → steps_left (after_step (the_state s owner c cs found loads made) word (next_step (the_state s owner c cs found loads made))) < steps_left (the_state s owner c cs found loads made)
-  step_fewer word (takes at is) free =
-      let not_taken = rw is at free in
-      let sum = sum_by-cons (λ (x : PageNo × Call). most_steps x.1) c cs in
-      rw is (dite (ℕ_discrete (taken_bit word) 0)
-      (λ zero. rw zero (omega arith))
-      (λ no. absurd (not_taken (omega arith))))
-  step_fewer word (draws at is) free = let sum = sum_by-cons (λ (x : PageNo × Call). most_steps x.1) c cs in rw is (omega arith)
-  step_fewer word (loads_cell i at lt mapped is) free = let sum = sum_by-cons (λ (x : PageNo × Call). most_steps x.1) c cs in rw is (omega arith)
-  step_fewer word (stores_cell j at lt mapped is) free = let sum = sum_by-cons (λ (x : PageNo × Call). most_steps x.1) c cs in rw is (omega arith)
-  step_fewer word (marks at lt mapped is) free = let sum = sum_by-cons (λ (x : PageNo × Call). most_steps x.1) c cs in rw is (omega arith)
-  step_fewer word (releases at is) free = let sum = sum_by-cons (λ (x : PageNo × Call). most_steps x.1) c cs in rw is (omega arith)
+  after_load-way : (word : ℕ) → IsUnderWay in_call → 2 ≤ made → made < 2 + load_count c.1 → made + 1 < length (call_actions cells c.0 c.1 lease found loads)
+      → IsUnderWay (record in_call { loads = loads ++ word ∷ []; made = made + 1 })
+  after_load-way word way two below more =
+      let long = length-call-alike cells c.0 c.1 lease found (loads ++ word ∷ []) loads in
+      let many = way.call.1 in
+      let longer = length-append loads (word ∷ []) in
+      record { call = (omega arith, omega arith, heard_more c.1 made lease (λ is. omega arith) way.call.2); back_first = λ some. absurd (some refl) }
 
--- a take that finds its page taken changes nothing
-taken_stays : (a : OwnerState) (word : ℕ) (step : Step) → FindsTaken step word → after_step a word step ≡ a
-taken_stays a word (Take page) taken = rw taken refl
-taken_stays a word Draw taken = absurd taken
-taken_stays a word (Load cell) taken = absurd taken
-taken_stays a word (Store frame cell value) taken = absurd taken
-taken_stays a word (Mark frame) taken = absurd taken
-taken_stays a word (Release end) taken = absurd taken
+  after_step-way : (step : Step) (word : ℕ) → IsUnderWay in_call → StandsNow (actions.Step step) → IsUnderWay (after_step in_call word step)
+  after_step-way (Take page) word way at = dite (ℕ_discrete (taken_bit word) 0)
+      (λ free. rw free (after_take-way word way at))
+      (λ no. let one : taken_bit word ≡ 1 = omega arith in rw one way)
+  after_step-way Draw word way at =
+      let long = length-call cells c.0 c.1 lease found loads in
+      one_made-way (omega arith) (no_loads_yet made (inr at)) (omega arith) way
+  after_step-way (Load cell) word way at = after_load-way word way at.0 at.1 at.2
+  after_step-way (Store frame cell value) word way at = between-way at way
+  after_step-way (Mark frame) word way at = between-way at way
+  after_step-way (Release end) word way at = before_call-way owner cells cs _
 
--- a release alone ends a call
-same_end : (a : OwnerState) (word : ℕ) (step : Step) → owner_ended a ≡ false → owner_ended (after_step a word step) ≡ owner_ended (after_step a 0 step)
-same_end a word (Take page) going = dite (ℕ_discrete (taken_bit word) 0)
-    (λ zero. rw zero refl)
-    (λ no. let one : taken_bit word ≡ 1 = omega arith in rw one refl)
-same_end a word Draw going = refl
-same_end a word (Load cell) going = refl
-same_end a word (Store frame cell value) going = refl
-same_end a word (Mark frame) going = refl
-same_end a word (Release end) going = refl
+  after_lease-way : (given : LeaseSeen) → given ≢ NotAsked → IsUnderWay in_call → made ≡ 0 → IsAlloc c.1 → IsUnderWay (record in_call { lease = given; made = made + 1 })
+  after_lease-way given other way first is =
+      let long = length-call cells c.0 c.1 given found loads in
+      let none = alloc_loads-none c.1 is in
+      let many = way.call.1 in
+      let some = lead-some cells c.0 c.1 given is in
+      record { call = (omega arith, omega arith, subst (λ (k : ℕ). HeardOfLease c.1 (k + 1) given) (sym first) (heard_once c.1 given is other)); back_first = λ no. absurd (no refl) }
 
--- sizes of no machine
-abbrev no_sizes : Sizes
-no_sizes = record { cells = 0; block = 0; boot = 0; managed = 0; plugged = 0; pages = 0 }
+-- ---- after an action
 
-module _ (s : Sizes) (owner found : ℕ) (loads : List ℕ) (made : ℕ) where
-  abbrev state_with : List (PageNo × Call) → OwnerState
-  state_with left = record { owner = owner; left = left; found = found; loads = loads; made = made }
+abbrev pub IsLease : Action → Type 0
+IsLease (actions.Step step) = ⊥
+IsLease (actions.Move step) = ⊥
+IsLease (actions.Space (Lease page kind)) = Unit {0}
+IsLease (actions.Space (Return frame)) = ⊥
+IsLease actions.Ended = ⊥
 
-  fewer_with : (left : List (PageNo × Call)) (word : ℕ) → AllByRecursion (λ c. IsCallOf s c) left → IsUnderWayIn left (state_with left) → owner_ended (state_with left) ≡ false
-      → ¬ FindsTaken (next_step (state_with left)) word → steps_left (owner_after (state_with left) word) < steps_left (state_with left)
-  fewer_with [] word all way going free = absurd (cc)
-  fewer_with (c ∷ cs) word all way going free = step_fewer s owner c cs found loads made (below_most s c (all.0).call found loads made way.0) word (kind_at c found loads s (all.0).call made way.0) free
+module _ (owner cells : ℕ) (c : PageNo × Call) (cs : List (PageNo × Call)) (lease : LeaseSeen) (found : ℕ) (loads : List ℕ) (made : ℕ) where
+  after_action-way : (action : Action) (heard : Heard) → (IsLease action → lease_in heard ≢ NotAsked) → StandsNow owner cells c cs lease found loads made action
+      → IsUnderWay (in_call owner cells c cs lease found loads made) → IsUnderWay (after_action (in_call owner cells c cs lease found loads made) heard action)
+  after_action-way (actions.Step step) heard fits at way = after_step-way owner cells c cs lease found loads made step (word_in heard) way at
+  after_action-way (actions.Move step) heard fits at way = between-way owner cells c cs lease found loads made at way
+  after_action-way (actions.Space (Lease page kind)) heard fits at way = after_lease-way owner cells c cs lease found loads made (lease_in heard) (fits tt) way at.0 at.1
+  after_action-way (actions.Space (Return frame)) heard fits at way = absurd at
+  after_action-way actions.Ended heard fits at way = absurd at
 
-  ended_with : (left : List (PageNo × Call)) → AllByRecursion (λ c. IsCallOf s c) left → IsUnderWayIn left (state_with left) → (steps_left (state_with left) ≡ 0) ↔ (owner_ended (state_with left) ≡ true)
-  ended_with [] all way = ((λ e. refl), (λ e. omega arith))
-  ended_with (c ∷ cs) all way =
-      let below = below_most s c (all.0).call found loads made way.0 in
-      let sum = sum_by-cons (λ (x : PageNo × Call). most_steps x.1) c cs in
-      ((λ e. absurd (omega arith)), (λ e. absurd (cc)))
+module _ (owner cells : ℕ) (lease : LeaseSeen) (found : ℕ) (loads : List ℕ) (made : ℕ) where
+  abbrev with_left : List (PageNo × Call) → Option FrameNo → OwnerState
+  with_left left back = record { owner = owner; cells = cells; left = left; lease = lease; found = found; loads = loads; made = made; back = back }
 
-  again_with : (left : List (PageNo × Call)) (word : ℕ) → FindsTaken (next_step (state_with left)) word → owner_after (state_with left) word ≡ state_with left
-  again_with [] word taken = refl
-  again_with (c ∷ cs) word taken = taken_stays (state_with (c ∷ cs)) word (next_step (state_with (c ∷ cs))) taken
+  after-with : (left : List (PageNo × Call)) (back : Option FrameNo) (heard : Heard) → (IsLease (next_action (with_left left back)) → lease_in heard ≢ NotAsked) → IsUnderWay (with_left left back)
+      → IsUnderWay (owner_after (with_left left back) heard)
+  after-with [] None heard fits way = way
+  after-with [] (Some frame) heard fits way = record { call = way.call; back_first = λ some. absurd (some refl) }
+  after-with (c ∷ cs) None heard fits way =
+      after_action-way owner cells c cs lease found loads made (next_action (with_left (c ∷ cs) None)) heard fits (stands_now owner cells c cs lease found loads made way) way
+  after-with (c ∷ cs) (Some frame) heard fits way = record { call = way.call; back_first = λ some. absurd (some refl) }
 
-  last_with : (left : List (PageNo × Call)) (word : ℕ) → owner_ended (owner_after (state_with left) word) ≡ ends_with_next (state_with left)
-  last_with [] word = refl
-  last_with (c ∷ cs) word = same_end (state_with (c ∷ cs)) word (next_step (state_with (c ∷ cs))) refl
+-- whatever is heard, but of a lease what it gave
+pub way_after : (a : OwnerState) (heard : Heard) → (IsLease (next_action a) → lease_in heard ≢ NotAsked) → IsUnderWay a → IsUnderWay (owner_after a heard)
+way_after a heard fits way = after-with a.owner a.cells a.lease a.found a.loads a.made a.left a.back heard fits way
 
-pub steps_fewer : (s : Sizes) (a : OwnerState) (found : ℕ) → AllByRecursion (λ c. IsCallOf s c) a.left → IsUnderWay a → owner_ended a ≡ false → ¬ FindsTaken (next_step a) found → steps_left (owner_after a found) < steps_left a
-steps_fewer s a found all way going free = fewer_with s a.owner a.found a.loads a.made a.left found all way going free
+not_lease : (action other : Action) → other ≡ action → (IsLease action → ⊥) → IsLease other → ⊥
+not_lease action other is never lease = never (subst (λ (x : Action). IsLease x) is lease)
 
-pub taken_again : (a : OwnerState) (found : ℕ) → FindsTaken (next_step a) found → owner_after a found ≡ a
-taken_again a found taken = again_with no_sizes a.owner a.found a.loads a.made a.left found taken
+pub way_after_step : (a : OwnerState) (step : Step) (heard : Heard) → IsUnderWay a → next_action a ≡ actions.Step step → IsUnderWay (owner_after a heard)
+way_after_step a step heard way is = way_after a heard (λ yes. absurd (not_lease (actions.Step step) (next_action a) is (λ never. never) yes)) way
 
-pub none_left : (s : Sizes) (a : OwnerState) → AllByRecursion (λ c. IsCallOf s c) a.left → IsUnderWay a → (steps_left a ≡ 0) ↔ (owner_ended a ≡ true)
-none_left s a all way = ended_with s a.owner a.found a.loads a.made a.left all way
+pub way_after_move : (a : OwnerState) (step : MoveStep) → IsUnderWay a → next_action a ≡ actions.Move step → IsUnderWay (owner_after a Nothing)
+way_after_move a step way is = way_after a Nothing (λ yes. absurd (not_lease (actions.Move step) (next_action a) is (λ never. never) yes)) way
 
-pub ends_whatever : (a : OwnerState) (found : ℕ) → owner_ended (owner_after a found) ≡ ends_with_next a
-ends_whatever a found = last_with no_sizes a.owner a.found a.loads a.made a.left found
+pub way_after_leased : (a : OwnerState) (page : PageNo) (kind : Kind) (frame : FrameNo) → IsUnderWay a → next_action a ≡ actions.Space (Lease page kind) → IsUnderWay (owner_after a (Leased frame))
+way_after_leased a page kind frame way is = way_after a (Leased frame) (λ yes e. absurd (cc)) way
+
+pub way_after_refused : (a : OwnerState) (page : PageNo) (kind : Kind) (at : ℕ) → IsUnderWay a → next_action a ≡ actions.Space (Lease page kind) → IsUnderWay (owner_after a (NoFrame at))
+way_after_refused a page kind at way is = way_after a (NoFrame at) (λ yes e. absurd (cc)) way

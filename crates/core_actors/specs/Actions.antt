@@ -3,17 +3,15 @@ use Rattle.std.specs.Prelude.{Bool, ℕ, ◌<◌, ◌^◌, if◌then◌else◌, 
 use Rattle.core_state.specs.declared.step.Step.{Step}
 use Rattle.core_state.specs.declared.step.Step.TheVariants.{Take, Draw, Load, Store, Mark, Release}
 use Rattle.core_actors.specs.declared.action.Action.{Action}
-use Rattle.core_actors.specs.declared.action.Action.TheVariants as action
+use Rattle.core_actors.specs.declared.action.Action.TheVariants as actions
 use Rattle.core_actors.specs.declared.action.Heard.{Heard}
 use Rattle.core_actors.specs.declared.action.Heard.TheVariants.{Start, Word, Nothing}
-use Rattle.core_actors.specs.Owners.{OwnerState, owner_ended, next_step, owner_after}
+use Rattle.core_actors.specs.Owners.{OwnerState, owner_ended, next_action, owner_after}
 
--- the owner once it has heard of the step that it was to make; where nothing is heard, the word that the
--- step found doesn't count
+-- the owner once it has heard of the action that it was to make
 abbrev pub owner_heard : OwnerState → Heard → OwnerState
 owner_heard a Start = a
-owner_heard a (Word word) = owner_after a word
-owner_heard a Nothing = owner_after a 0
+owner_heard a heard = owner_after a heard
 
 -- what a step that found the word gives: that word, if it counts for what the owner does next
 abbrev pub heard_by : Step → ℕ → Heard
@@ -24,13 +22,14 @@ heard_by (Store frame cell value) found = Nothing
 heard_by (Mark frame) found = Nothing
 heard_by (Release end) found = Nothing
 
--- the owner's next step, or that it has ended
+-- the owner's next action, or that it has ended
 abbrev pub action_of : OwnerState → Action
-action_of a = if owner_ended a then action.Ended else action.Step (next_step a)
+action_of a = if owner_ended a then actions.Ended else next_action a
 
--- No step is left behind the next one. The last step of a call ends it, whatever word it finds.
+-- No action is left behind the next one. The last action of a script ends it, whatever it gives: it is a
+-- release or a return.
 abbrev pub ends_with_next : OwnerState → Bool
-ends_with_next a = owner_ended (owner_after a 0)
+ends_with_next a = owner_ended (owner_after a Nothing)
 
 -- a value that is stored has 64 bits
 abbrev pub IsStorable : Step → Type 0

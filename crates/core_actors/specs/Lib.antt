@@ -4,3 +4,4 @@ pub mod Actions
 pub mod Counts
 pub mod Fits
 pub mod OwnerInside
+pub mod CallParts

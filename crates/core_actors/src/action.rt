@@ -1,16 +1,55 @@
 //! What an actor hears and what it does.
 
-use core_state::Step;
+use core_state::{MoveStep, Step};
+use evac_model::{FrameNo, Kind, PageNo};
 
-/// What the last step of an actor gave.
+/// What the last action of an actor gave.
 #[derive(Clone, Copy, Debug, PartialEq, Eq)]
 pub enum Heard {
-    /// There was no step before.
+    /// There was no action before.
     Start,
     /// The word that the step found.
     Word(u64),
-    /// The step gives nothing.
+    /// The action gives nothing.
     Nothing,
+    /// The frame that was leased, which is in the actor's hand now.
+    Leased(FrameNo),
+    /// No frame was leased; the length of the space journal then.
+    NoFrame(u64),
+}
+
+/// What an actor asks of the frame space. A frame changes hands with it.
+#[derive(Clone, Copy, Debug, PartialEq, Eq)]
+pub enum SpaceCall {
+    /// A frame for a page of that kind.
+    Lease {
+        /// The page.
+        page: PageNo,
+        /// The kind.
+        kind: Kind,
+    },
+    /// A frame is given back.
+    Return {
+        /// The frame.
+        frame: FrameNo,
+    },
+}
+
+/// What the lease of an alloc gave.
+#[derive(Clone, Copy, Debug, PartialEq, Eq)]
+pub enum LeaseSeen {
+    /// It wasn't made yet, or the call isn't an alloc.
+    NotAsked,
+    /// A frame.
+    Got {
+        /// The frame.
+        frame: FrameNo,
+    },
+    /// It was refused.
+    Refused {
+        /// The length of the space journal then.
+        at: u64,
+    },
 }
 
 /// How the other actors stand.
@@ -33,6 +72,10 @@ pub struct Others {
 pub enum Action {
     /// It makes the step.
     Step(Step),
+    /// It makes the step on the mapping of the page that it holds.
+    Move(MoveStep),
+    /// It asks the frame space.
+    Space(SpaceCall),
     /// It has made its last step.
     Ended,
 }

@@ -1,73 +1,94 @@
-//! Laws of an owner's steps. Each function has an empty body: its contract is the law.
+//! Laws of an owner's actions. Each function has an empty body: its contract is the law.
 
-ghost use Rattle.std.specs.Prelude.{◌≡◌, ℕ, ◌+◌, ◌*◌, ◌<◌, ◌≤◌, ◌↔◌, List, [], map, length, true, false, None};
+ghost use Rattle.std.specs.Prelude.{◌≡◌, ℕ, ◌+◌, ◌*◌, ◌<◌, ◌≤◌, ◌↔◌, List, [], map, length, true, false, None, Some, IsSome};
 ghost use Rattle.std.specs.List.{AllByRecursion, enumerate_from};
 ghost use Rattle.evac_model.specs.declared.call.Call.{Call};
+ghost use Rattle.evac_model.specs.declared.names.FrameNo.{FrameNo};
+ghost use Rattle.evac_model.specs.declared.names.Kind.{Kind};
 ghost use Rattle.evac_model.specs.declared.names.PageNo.{PageNo};
 ghost use Rattle.evac_model.specs.Geometry.{Sizes};
 ghost use Rattle.evac_model.specs.Scripts.{numbered_call};
+ghost use Rattle.core_state.specs.declared.hand.HandFrame.{HandFrame};
 ghost use Rattle.core_state.specs.declared.keeper.Keeper.{Keeper};
+ghost use Rattle.core_state.specs.declared.keeper.Keeper.TheVariants.{OneOwner};
 ghost use Rattle.core_state.specs.declared.opening.Opening.{Opening};
+ghost use Rattle.core_state.specs.declared.step.MoveStep.{MoveStep};
+ghost use Rattle.core_state.specs.declared.step.Step.{Step};
 ghost use Rattle.core_state.specs.declared.view.View.{View};
-ghost use Rattle.core_state.specs.Views.{Has, IsSeated};
+ghost use Rattle.core_state.specs.Views.{Has, IsSeated, hand_frame};
 ghost use Rattle.core_state.specs.Pages.{Pages};
+ghost use Rattle.core_state.specs.Sound.{Sound};
 ghost use Rattle.core_state.specs.Opens.{IsNew};
 ghost use Rattle.core_state.specs.Steps.{Allowed, view_after};
+ghost use Rattle.core_state.specs.MoveSteps.{AllowedMove, view_after_move};
+ghost use Rattle.core_state.specs.HandOvers.{IsAtRest, MayHandOver, hand_without, hand_with};
+ghost use Rattle.core_actors.specs.declared.action.Action.{Action};
+ghost use Rattle.core_actors.specs.declared.action.Heard.{Heard};
+ghost use Rattle.core_actors.specs.declared.action.SpaceCall.{SpaceCall};
 ghost use Rattle.core_actors.specs.CallSteps.{IsCallOf};
-ghost use Rattle.core_actors.specs.Owners.{OwnerState, owner_at_start, owner_ended, next_step, owner_after};
+ghost use Rattle.core_actors.specs.Owners.{OwnerState, owner_at_start, owner_ended, next_action, owner_after};
 ghost use Rattle.core_actors.specs.Actions.{owner_heard, heard_by, ends_with_next, IsStorable};
-ghost use Rattle.core_actors.specs.Counts.{steps_left, IsUnderWay, FindsTaken};
+ghost use Rattle.core_actors.specs.Counts.{actions_left, IsUnderWay, FindsTaken};
 ghost use Rattle.core_actors.specs.Fits.{Fits};
 
-/// The next step of an owner that hasn't ended is allowed, where its seat's view fits its place in the
-/// script, and each page is what its calls answer.
-pub fn owners_make_allowed_steps()
-    ensures { (s : Sizes) (o : Opening) (words : List ℕ) (views : List View) (seat : ℕ) (v : View) (script : List (PageNo × Call)) (a : OwnerState) → Has views seat v → Pages o words views → Fits s o script v a → owner_ended a ≡ false → IsStorable (next_step a) → Allowed o v (next_step a) }
+/// The next action of an owner that hasn't ended is allowed, where its seat's view fits its place in the
+/// script, and each page is what its calls answer. Where it asks the frame space, its seat is at rest; a
+/// frame that it gives back is in its hand.
+pub fn owners_make_allowed_actions()
+    ensures steps { (s : Sizes) (o : Opening) (words : List ℕ) (views : List View) (seat : ℕ) (v : View) (script : List (PageNo × Call)) (a : OwnerState) (step : Step) → Has views seat v → Pages o words views → Fits s o script v a → owner_ended a ≡ false → next_action a ≡ Action.Step step → IsStorable step → Allowed o v step }
+    ensures moves { (s : Sizes) (o : Opening) (words : List ℕ) (views : List View) (seat : ℕ) (v : View) (script : List (PageNo × Call)) (a : OwnerState) (step : MoveStep) → Has views seat v → Pages o words views → Fits s o script v a → owner_ended a ≡ false → next_action a ≡ Action.Move step → AllowedMove OneOwner o v step }
+    ensures leases { (s : Sizes) (o : Opening) (v : View) (script : List (PageNo × Call)) (a : OwnerState) (page : PageNo) (kind : Kind) → Fits s o script v a → owner_ended a ≡ false → next_action a ≡ Action.Space (SpaceCall.Lease page kind) → IsAtRest o v × (page.0 < s.pages) }
+    ensures returns { (s : Sizes) (o : Opening) (v : View) (script : List (PageNo × Call)) (a : OwnerState) (frame : FrameNo) → Fits s o script v a → owner_ended a ≡ false → next_action a ≡ Action.Space (SpaceCall.Return frame) → IsAtRest o v × IsSome (hand_frame v frame.0) }
 {}
 
-/// The view still fits after the owner's next step, whatever word it finds.
-pub fn owners_fit_after_their_steps()
-    ensures { (k : Keeper) (s : Sizes) (o : Opening) (v : View) (script : List (PageNo × Call)) (a : OwnerState) (found : ℕ) → Fits s o script v a → owner_ended a ≡ false → Fits s o script (view_after k v (next_step a) found) (owner_after a found) }
+/// The view still fits after the owner's next action, whatever it gives: after a step that found a word, a
+/// step on the mapping, a lease that handed a frame over or was refused, and a return.
+pub fn owners_fit_after_their_actions()
+    ensures steps { (k : Keeper) (s : Sizes) (o : Opening) (v : View) (script : List (PageNo × Call)) (a : OwnerState) (step : Step) (found : ℕ) → Fits s o script v a → owner_ended a ≡ false → next_action a ≡ Action.Step step → Fits s o script (view_after k v step found) (owner_after a (heard_by step found)) }
+    ensures moves { (s : Sizes) (o : Opening) (words : List ℕ) (views : List View) (seat : ℕ) (v : View) (script : List (PageNo × Call)) (a : OwnerState) (step : MoveStep) → Has views seat v → Sound o words views → Fits s o script v a → owner_ended a ≡ false → next_action a ≡ Action.Move step → AllowedMove OneOwner o v step → Fits s o script (view_after_move OneOwner v step) (owner_after a Heard.Nothing) }
+    ensures leased { (s : Sizes) (o : Opening) (v giver : View) (script : List (PageNo × Call)) (a : OwnerState) (page : PageNo) (kind : Kind) (frame : FrameNo) (x : HandFrame) → Fits s o script v a → owner_ended a ≡ false → next_action a ≡ Action.Space (SpaceCall.Lease page kind) → MayHandOver o giver v frame.0 1 → hand_frame giver frame.0 ≡ Some x → length x.stores ≡ o.cells → Fits s o script (record v { hand = hand_with v.hand giver.hand frame.0 1 }) (owner_after a (Heard.Leased frame)) }
+    ensures refused { (s : Sizes) (o : Opening) (v : View) (script : List (PageNo × Call)) (a : OwnerState) (page : PageNo) (kind : Kind) (at : ℕ) → Fits s o script v a → owner_ended a ≡ false → next_action a ≡ Action.Space (SpaceCall.Lease page kind) → Fits s o script v (owner_after a (Heard.NoFrame at)) }
+    ensures returned { (s : Sizes) (o : Opening) (v : View) (script : List (PageNo × Call)) (a : OwnerState) (frame : FrameNo) → Fits s o script v a → owner_ended a ≡ false → next_action a ≡ Action.Space (SpaceCall.Return frame) → Fits s o script (record v { hand = hand_without v.hand frame.0 1 }) (owner_after a Heard.Nothing) }
 {}
 
-/// A new view with a ticket for each call fits the owner at the start of its script.
+/// A new view with a ticket for each call and an empty hand fits the owner at the start of its script.
 pub fn owners_fit_at_the_opening()
-    ensures { (s : Sizes) (o : Opening) (v : View) (script : List (PageNo × Call)) (owner : ℕ) → o.cells ≡ s.cells → o.pages ≡ s.pages → AllByRecursion (λ c. IsCallOf s c) script → IsSeated o v → IsNew o v → v.caller ≡ Some owner → v.left ≡ length script → Fits s o script v (owner_at_start owner script) }
+    ensures { (s : Sizes) (o : Opening) (v : View) (script : List (PageNo × Call)) (owner : ℕ) → o.cells ≡ s.cells → o.pages ≡ s.pages → AllByRecursion (λ c. IsCallOf s c) script → IsSeated o v → IsNew o v → v.caller ≡ Some owner → v.left ≡ length script → ((frame : ℕ) → hand_frame v frame ≡ None) → Fits s o script v (owner_at_start owner s.cells script) }
 {}
 
-/// An owner is under way at the start, and after each of its steps.
+/// An owner is under way at the start, and after each of its actions. A lease is heard of as one.
 pub fn owners_stay_under_way()
-    ensures start { (owner : ℕ) (script : List (PageNo × Call)) → IsUnderWay (owner_at_start owner script) }
-    ensures step { (s : Sizes) (a : OwnerState) (found : ℕ) → AllByRecursion (λ c. IsCallOf s c) a.left → IsUnderWay a → IsUnderWay (owner_after a found) }
+    ensures start { (owner cells : ℕ) (script : List (PageNo × Call)) → IsUnderWay (owner_at_start owner cells script) }
+    ensures step { (s : Sizes) (a : OwnerState) (step : Step) (found : ℕ) → AllByRecursion (λ c. IsCallOf s c) a.left → IsUnderWay a → next_action a ≡ Action.Step step → IsUnderWay (owner_after a (heard_by step found)) }
+    ensures mapping { (a : OwnerState) (step : MoveStep) → IsUnderWay a → next_action a ≡ Action.Move step → IsUnderWay (owner_after a Heard.Nothing) }
+    ensures leased { (a : OwnerState) (page : PageNo) (kind : Kind) (frame : FrameNo) → IsUnderWay a → next_action a ≡ Action.Space (SpaceCall.Lease page kind) → IsUnderWay (owner_after a (Heard.Leased frame)) }
+    ensures refused { (a : OwnerState) (page : PageNo) (kind : Kind) (at : ℕ) → IsUnderWay a → next_action a ≡ Action.Space (SpaceCall.Lease page kind) → IsUnderWay (owner_after a (Heard.NoFrame at)) }
+    ensures returned { (a : OwnerState) (frame : FrameNo) → IsUnderWay a → next_action a ≡ Action.Space (SpaceCall.Return frame) → IsUnderWay (owner_after a Heard.Nothing) }
 {}
 
-/// An owner has at most so many steps left as its calls, times the cells of a page and 6. Each step
+/// An owner has at most so many actions left as its calls, times the cells of a page and 6. Each action
 /// leaves fewer, but a take that finds its page taken, which changes nothing. None are left exactly where
 /// the owner has ended.
-pub fn owners_end_after_their_steps()
-    ensures most { (s : Sizes) (a : OwnerState) → AllByRecursion (λ c. IsCallOf s c) a.left → steps_left a ≤ length a.left * (s.cells + 6) }
-    ensures fewer { (s : Sizes) (a : OwnerState) (found : ℕ) → AllByRecursion (λ c. IsCallOf s c) a.left → IsUnderWay a → owner_ended a ≡ false → ¬ FindsTaken (next_step a) found → steps_left (owner_after a found) < steps_left a }
-    ensures again { (a : OwnerState) (found : ℕ) → FindsTaken (next_step a) found → owner_after a found ≡ a }
-    ensures ended { (s : Sizes) (a : OwnerState) → AllByRecursion (λ c. IsCallOf s c) a.left → IsUnderWay a → (steps_left a ≡ 0) ↔ (owner_ended a ≡ true) }
-{}
-
-/// From what its next step gives, an owner learns all that counts of the word that the step found.
-pub fn owners_hear_what_counts()
-    ensures { (a : OwnerState) (found : ℕ) → owner_heard a (heard_by (next_step a) found) ≡ owner_after a found }
+pub fn owners_end_after_their_actions()
+    ensures most { (s : Sizes) (owner : ℕ) (script : List (PageNo × Call)) → AllByRecursion (λ c. IsCallOf s c) script → actions_left (owner_at_start owner s.cells script) ≤ length script * (s.cells + 6) }
+    ensures fewer { (s : Sizes) (a : OwnerState) (heard : Heard) → a.cells ≡ s.cells → AllByRecursion (λ c. IsCallOf s c) a.left → IsUnderWay a → owner_ended a ≡ false → IsUnderWay (owner_after a heard) → ((found : ℕ) → heard ≡ Heard.Word found → ¬ FindsTaken (next_action a) found) → actions_left (owner_after a heard) < actions_left a }
+    ensures again { (a : OwnerState) (found : ℕ) → FindsTaken (next_action a) found → owner_after a (Heard.Word found) ≡ a }
+    ensures ended { (s : Sizes) (a : OwnerState) → a.cells ≡ s.cells → AllByRecursion (λ c. IsCallOf s c) a.left → IsUnderWay a → (actions_left a ≡ 0) ↔ (owner_ended a ≡ true) }
 {}
 
 /// The view of an owner that has ended has an entry for each call of its script, in order and numbered
-/// from 0, and no other. It has no ticket left, holds no page, and has no frame unmarked.
+/// from 0, and no other. It has no ticket left, holds no page, has no frame unmarked and none in hand.
 pub fn ended_owners_have_their_entries()
     ensures entries { (s : Sizes) (o : Opening) (v : View) (script : List (PageNo × Call)) (a : OwnerState) → Fits s o script v a → owner_ended a ≡ true → map numbered_call v.entries ≡ enumerate_from 0 script }
     ensures left { (s : Sizes) (o : Opening) (v : View) (script : List (PageNo × Call)) (a : OwnerState) → Fits s o script v a → owner_ended a ≡ true → v.left ≡ 0 }
     ensures held { (s : Sizes) (o : Opening) (v : View) (script : List (PageNo × Call)) (a : OwnerState) → Fits s o script v a → owner_ended a ≡ true → v.held ≡ None }
     ensures unmarked { (s : Sizes) (o : Opening) (v : View) (script : List (PageNo × Call)) (a : OwnerState) → Fits s o script v a → owner_ended a ≡ true → v.unmarked ≡ [] }
+    ensures hand { (s : Sizes) (o : Opening) (v : View) (script : List (PageNo × Call)) (a : OwnerState) → Fits s o script v a → owner_ended a ≡ true → (frame : ℕ) → hand_frame v frame ≡ None }
 {}
 
-/// Whether an owner ends with its next step doesn't depend on the word that the step finds. At the start
-/// it does so only where it has no calls.
-pub fn ends_are_known_before_the_last_step()
-    ensures start { (owner : ℕ) (script : List (PageNo × Call)) → ends_with_next (owner_at_start owner script) ≡ owner_ended (owner_at_start owner script) }
-    ensures step { (a : OwnerState) (found : ℕ) → owner_ended (owner_after a found) ≡ ends_with_next a }
+/// Whether an owner ends with its next action doesn't depend on what that gives, where it is under way: the
+/// last one is a release or a return. At the start it does so only where it has no calls.
+pub fn ends_are_known_before_the_last_action()
+    ensures start { (owner cells : ℕ) (script : List (PageNo × Call)) → ends_with_next (owner_at_start owner cells script) ≡ owner_ended (owner_at_start owner cells script) }
+    ensures action { (a : OwnerState) (heard : Heard) → owner_ended (owner_after a heard) ≡ ends_with_next a }
 {}

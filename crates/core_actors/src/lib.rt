@@ -1,17 +1,19 @@
-//! The actors of a run. Each says which step it makes next, from what its earlier steps found; it
-//! makes none itself.
+//! The owners of a run, with allocs and frees. Each says what it does next, from what its earlier
+//! actions gave; it does nothing itself. These owners take the place of those of `core_actors` once a
+//! replay makes leases, returns and steps on mappings.
 #![tactic(auto)]
 
 mod action;
-mod call_step;
+mod call_action;
+mod heard;
 mod laws;
 mod owner;
 
-pub use action::{Action, Heard, Others};
+pub use action::{Action, Heard, LeaseSeen, Others, SpaceCall};
 pub use laws::{
-    ended_owners_have_their_entries, ends_are_known_before_the_last_step,
-    owners_end_after_their_steps, owners_fit_after_their_steps, owners_fit_at_the_opening,
-    owners_hear_what_counts, owners_make_allowed_steps, owners_stay_under_way,
+    ended_owners_have_their_entries, ends_are_known_before_the_last_action,
+    owners_end_after_their_actions, owners_fit_after_their_actions, owners_fit_at_the_opening,
+    owners_make_allowed_actions, owners_stay_under_way,
 };
 pub use owner::Owner;
 

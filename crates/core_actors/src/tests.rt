@@ -2,9 +2,9 @@
 
 ghost use Rattle.std.specs.Prelude.{◌≡◌, ◌∷◌, []};
 
-use crate::{Action, Heard, Others, Owner};
-use core_state::{CallDone, Step};
-use evac_model::{Call, CallList, Cells, FrameNo, Geometry, PageNo, Reply};
+use crate::{Action, Heard, Others, Owner, SpaceCall};
+use core_state::{CallDone, MoveStep, Step};
+use evac_model::{Call, CallList, Cells, FrameNo, Geometry, Kind, PageNo, Reply};
 use std::test::Fail;
 
 const NOBODY: Others = Others {
@@ -27,6 +27,23 @@ const FRAME: FrameNo = FrameNo(3);
 const TAKE: Step = Step::Take { page: PAGE };
 
 const MARK: Step = Step::Mark { frame: FRAME };
+
+// The frame that is leased.
+const LEASED: FrameNo = FrameNo(1);
+
+const ALLOC: Call = Call::Alloc {
+    kind: Kind::Unmovable,
+};
+
+const LEASE: Action = Action::Space(SpaceCall::Lease {
+    page: PAGE,
+    kind: Kind::Unmovable,
+});
+
+const MAP: Action = Action::Move(MoveStep::Map {
+    frame: LEASED,
+    kind: Kind::Unmovable,
+});
 
 const READ: Call = Call::Read { first: 1, count: 2 };
 
@@ -65,6 +82,25 @@ fn store(cell: u32, value: u64) -> Step {
         cell,
         value,
     }
+}
+
+/// The release of a call, as an action.
+fn ended(call: Call, reply: Reply) -> Action {
+    Action::Step(release(call, reply))
+}
+
+/// A store of 0 in the frame that was leased.
+fn zero(cell: u32) -> Action {
+    Action::Step(Step::Store {
+        frame: LEASED,
+        cell,
+        value: 0,
+    })
+}
+
+/// A frame given back.
+fn back(frame: FrameNo) -> Action {
+    Action::Space(SpaceCall::Return { frame })
 }
 
 #[test]
@@ -138,6 +174,81 @@ fn pins_and_refusals_have_three_steps(rt: HostRuntime) -> Result<(), Fail> {
         );
         assert_eq!(rt; owner.next(Heard::Word(2), NOBODY), Action::Step(end));
         last = Heard::Nothing;
+    }
+    assert!(rt; owner.has_ended());
+    Ok(())
+}
+
+#[test]
+fn allocs_lease_a_frame(rt: HostRuntime) -> Result<(), Fail> {
+    let g = Geometry::new(2, 2, 2, 1, 1, 4)?;
+    let calls = vec![in rt.alloc(); (PAGE, ALLOC), (PAGE, ALLOC), (PAGE, ALLOC), (PAGE, ALLOC)]?;
+    let mut owner = Owner::new(g, 1, CallList::from_vec(calls));
+    let table = [
+        (Heard::Start, LEASE),
+        (Heard::Leased(LEASED), zero(0)),
+        (Heard::Nothing, zero(1)),
+        (Heard::Nothing, Action::Step(Step::Mark { frame: LEASED })),
+        (Heard::Nothing, Action::Step(TAKE)),
+        (Heard::Word(UNMAPPED + 1), Action::Step(TAKE)),
+        (Heard::Word(UNMAPPED), Action::Step(Step::Draw)),
+        (Heard::Word(2), MAP),
+        (Heard::Nothing, ended(ALLOC, Reply::Done)),
+        (Heard::Nothing, LEASE),
+        (Heard::NoFrame(9), Action::Step(TAKE)),
+        (Heard::Word(MAPPED), Action::Step(Step::Draw)),
+        (Heard::Word(3), ended(ALLOC, Reply::Mapped)),
+        (Heard::Nothing, LEASE),
+        (Heard::NoFrame(9), Action::Step(TAKE)),
+        (Heard::Word(UNMAPPED), Action::Step(Step::Draw)),
+        (Heard::Word(4), ended(ALLOC, Reply::NoFrame { at: 9 })),
+        (Heard::Nothing, LEASE),
+        (Heard::Leased(LEASED), zero(0)),
+        (Heard::Nothing, zero(1)),
+        (Heard::Nothing, Action::Step(Step::Mark { frame: LEASED })),
+        (Heard::Nothing, Action::Step(TAKE)),
+        (Heard::Word(MAPPED), Action::Step(Step::Draw)),
+        (Heard::Word(5), ended(ALLOC, Reply::Mapped)),
+        (Heard::Nothing, back(LEASED)),
+    ];
+    for (heard, action) in table {
+        assert!(rt; !owner.has_ended());
+        assert_eq!(rt; owner.next(heard, NOBODY), action);
+    }
+    assert!(rt; owner.has_ended());
+    assert_eq!(rt; owner.next(Heard::Nothing, NOBODY), Action::Ended);
+    Ok(())
+}
+
+#[test]
+fn frees_give_the_frame_back(rt: HostRuntime) -> Result<(), Fail> {
+    let g = Geometry::new(4, 2, 2, 1, 1, 4)?;
+    let calls = vec![in rt.alloc();
+        (PAGE, Call::Free),
+        (PAGE, Call::Free),
+        (PAGE, Call::Free),
+        (PAGE, Call::Pin),
+    ]?;
+    let mut owner = Owner::new(g, 1, CallList::from_vec(calls));
+    let table = [
+        (Heard::Start, Action::Step(TAKE)),
+        (Heard::Word(MAPPED + 16), Action::Step(Step::Draw)),
+        (Heard::Word(2), ended(Call::Free, Reply::Pinned)),
+        (Heard::Nothing, Action::Step(TAKE)),
+        (Heard::Word(MAPPED), Action::Step(Step::Draw)),
+        (Heard::Word(3), Action::Move(MoveStep::Unmap)),
+        (Heard::Nothing, ended(Call::Free, Reply::Done)),
+        (Heard::Nothing, back(FRAME)),
+        (Heard::Nothing, Action::Step(TAKE)),
+        (Heard::Word(UNMAPPED), Action::Step(Step::Draw)),
+        (Heard::Word(4), ended(Call::Free, Reply::NotMapped)),
+        (Heard::Nothing, Action::Step(TAKE)),
+        (Heard::Word(UNMAPPED), Action::Step(Step::Draw)),
+        (Heard::Word(5), ended(Call::Pin, Reply::NotMapped)),
+    ];
+    for (heard, action) in table {
+        assert!(rt; !owner.has_ended());
+        assert_eq!(rt; owner.next(heard, NOBODY), action);
     }
     assert!(rt; owner.has_ended());
     Ok(())

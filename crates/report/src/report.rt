@@ -1,6 +1,6 @@
 //! What a run leaves.
 
-use evac_model::{BlockList, EntryList, Kind, Listed, NumberList, PageNo};
+use evac_model::{BlockList, EntryList, Kind, Listed, NumberList, PageNo, SpaceAction};
 
 /// A page that is mapped at the end of the run.
 #[derive(Debug, Drop)]
@@ -18,11 +18,17 @@ pub struct FinalPage {
 /// Final pages, by rising page number.
 pub type FinalPageList = Listed<FinalPage>;
 
-/// What a run leaves: the history of the calls, the blocks that are plugged, and the pages.
+/// The actions of the frame space, in order.
+pub type SpaceActionList = Listed<SpaceAction>;
+
+/// What a run leaves: the history of the calls, the journal of the frame space, the blocks that are
+/// plugged, and the pages.
 #[derive(Debug, Drop)]
 pub struct Report {
     /// Every call with its reply, in ticket order.
     pub history: EntryList,
+    /// Every action of the frame space, in order.
+    pub space_journal: SpaceActionList,
     /// The plugged blocks, rising.
     pub plugged: BlockList,
     /// The mapped pages, by rising page number.

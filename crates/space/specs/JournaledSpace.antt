@@ -1,12 +1,12 @@
 -- A frame space as its journal: all that it answers follows from the actions so far.
-use Rattle.std.specs.Prelude.{◌≡◌, ℕ, ◌<◌, true, false, nat_eq, List, [], ◌∷◌, ◌++◌, map, None}
+use Rattle.std.specs.Prelude.{◌≡◌, ℕ, true, nat_eq, List, [], ◌∷◌, ◌++◌, map}
 use Rattle.std.specs.List.{AllByRecursion, IsDistinct}
 use Rattle.evac_model.specs.declared.names.Kind.{Kind}
 use Rattle.evac_model.specs.declared.scenario.StartPage.{StartPage}
 use Rattle.evac_model.specs.declared.space.SpaceAction.{SpaceAction}
-use Rattle.evac_model.specs.Geometry.{Sizes, IsThereAtStart, frame_count}
+use Rattle.evac_model.specs.Geometry.{Sizes, IsThereAtStart}
 use Rattle.evac_model.specs.FreeRuns.{fits}
-use Rattle.evac_model.specs.SpaceJournal.{SpaceState, space_after, out_for, is_frame_in}
+use Rattle.evac_model.specs.SpaceJournal.{SpaceState, IsLeasable, space_after}
 
 -- the machine, the kind of pages that managed blocks are online for, the space at its opening, and the
 -- actions since
@@ -24,12 +24,9 @@ state_of v = space_after v.sizes v.online v.opening v.journal
 abbrev pub with_action : SpaceAction → JournaledSpace → JournaledSpace
 with_action a v = record v { journal = v.journal ++ a ∷ [] }
 
--- a frame that isn't out, in no isolated block, and of a block that takes the kind
-pub record IsLeasableFor (v : JournaledSpace) (kind : Kind) (frame : ℕ) : Type 0 where
-  pub there : frame < frame_count v.sizes
-  pub fitting : fits v.sizes v.online kind frame ≡ true
-  pub not_out : out_for (state_of v) frame ≡ None
-  pub not_isolated : is_frame_in v.sizes (state_of v).isolated frame ≡ false
+-- a frame that a lease for a page of the kind may give now
+abbrev pub IsLeasableFor : JournaledSpace → (kind : Kind) → (frame : ℕ) → Type 0
+IsLeasableFor v kind frame = IsLeasable v.sizes v.online (state_of v) kind frame
 
 -- frames that a space may open with: they are there at the start, each once, and take their pages
 pub record AreStartFrames (s : Sizes) (online : Kind) (start : List StartPage) : Type 0 where
