@@ -7,14 +7,19 @@ use Rattle.evac_model.specs.declared.call.Call.{Call}
 use Rattle.evac_model.specs.declared.entry.Entry.{Entry}
 use Rattle.evac_model.specs.ScenarioLines.{HasNumbers}
 use Rattle.evac_model.specs.Scripts.{script_of}
+use Rattle.core_state.specs.declared.hand.HandFrame.{HandFrame}
 use Rattle.core_state.specs.declared.held.Held.{Held}
+use Rattle.core_state.specs.declared.opening.Opening.{Opening}
 use Rattle.core_state.specs.declared.view.View.{View}
+use Rattle.core_state.specs.HandOvers.{IsAtRest}
 use Rattle.core_state.specs.Sound.{Sound}
-use Rattle.core_state.specs.Views.{Has}
+use Rattle.core_state.specs.Views.{Has, hand_frame}
 use Rattle.core_actors.specs.Owners.{OwnerState}
 use Rattle.core_actors.specs.Fits.{Fits}
 use Rattle.replay.specs.Machine.{Machine}
 use Rattle.replay.specs.Runs.{opening}
+use Rattle.replay.specs.FramesOut.{AreFramesPlaced}
+use Rattle.replay.specs.CallsMade.{AreCallsMade}
 
 -- the tickets of the entries rise
 abbrev pub AreRising : List Entry → Type 0
@@ -31,12 +36,24 @@ pub record IsInOrder (v : View) : Type 0 where
 abbrev pub HaveNumbers : List (PageNo × Call) → Type 0
 HaveNumbers calls = AllByRecursion (λ c. HasNumbers c.1) calls
 
--- The snapshot is sound, each owner's seat is as its script has it, and the other seats have done
--- nothing.
-pub record IsKept (s : Scenario) (m : Machine) : Type 0 where
+-- a seat that makes no calls: it may have frames in hand
+pub record IsIdle (o : Opening) (v : View) : Type 0 where
+  pub rests : IsAtRest o v
+  pub entries : v.entries ≡ []
+  pub sized : (frame : ℕ) (x : HandFrame) → hand_frame v frame ≡ Some x → length x.stores ≡ o.cells
+
+-- The snapshot is sound, each owner's seat is as its script has it, and the other seats make no calls.
+pub record AreSeatsKept (s : Scenario) (m : Machine) : Type 0 where
   pub sound : Sound (opening s) m.snapshot.words m.snapshot.views
   pub owners : length m.owners ≡ length s.owners
   pub seats : length m.snapshot.views ≡ length s.owners + 4
   pub fits : (i : ℕ) (a : OwnerState) (v : View) → slice_get m.owners i ≡ Some a → Has m.snapshot.views (suc i) v → (a.owner ≡ suc i) × Fits s.geometry (opening s) (script_of s.owners (suc i)) v a × HaveNumbers a.left
   pub in_order : (i : ℕ) (v : View) → Has m.snapshot.views i v → IsInOrder v
-  pub others : (i : ℕ) (v : View) → Has m.snapshot.views i v → (i ≡ 0) ⊎ (length s.owners < i) → (v.entries ≡ []) × (v.held ≡ None)
+  pub others : (i : ℕ) (v : View) → Has m.snapshot.views i v → (i ≡ 0) ⊎ (length s.owners < i) → IsIdle (opening s) v
+
+-- The seats are kept, the frames are where the space's journal has them, and each owner's leases and returns are
+-- those of its calls.
+pub record IsKept (s : Scenario) (m : Machine) : Type 0 where
+  pub seats : AreSeatsKept s m
+  pub frames : AreFramesPlaced s m
+  pub calls : AreCallsMade s m

@@ -1,6 +1,8 @@
 pub mod Machine
 pub mod Schedule
 pub mod Runs
+pub mod FramesOut
+pub mod CallsMade
 pub mod Keeping
 pub mod Quiet
 pub mod Seats

@@ -8,7 +8,7 @@ use Rattle.evac_model.specs.ScenarioGrammar.{call_count}
 use Rattle.evac_model.specs.Scenarios.{IsRunnable}
 use Rattle.replay.specs.declared.replay.Replay.TheInside.{Inside}
 use Rattle.replay.specs.Machine.{Run}
-use Rattle.replay.specs.Runs.{opening, machine_at_start}
+use Rattle.replay.specs.Runs.{setting, machine_at_start}
 
 -- the turns that are to be made, and the machine at the start
 pub record ReplayState : Type 0 where
@@ -25,7 +25,7 @@ replay_of s = record {
   named = s.named;
   drawn = s.drawn;
   calls = call_count s.owners;
-  run = record { opening = opening s; machine = machine_at_start s };
+  run = record { setting = setting s; machine = machine_at_start s };
 }
 
 abbrev pub state_of : Inside → ReplayState

@@ -4,20 +4,21 @@ use Rattle.evac_model.specs.declared.scenario.Scenario.{Scenario}
 use Rattle.evac_model.specs.Scenarios.{IsRunnable}
 use Rattle.replay.specs.declared.machine.Running.TheInside.{Inside}
 use Rattle.replay.specs.Machine.{Machine, Run}
-use Rattle.replay.specs.Runs.{opening}
+use Rattle.replay.specs.Runs.{setting}
 use Rattle.replay.specs.Keeping.{IsKept}
 use Rattle.replay.specs.Quiet.{IsQuiet}
+use Rattle.replay.specs.Seats.{setting_of}
 
 abbrev pub machine_of : Inside → Machine
-machine_of a = record { snapshot = a.core.snapshot; owners = a.owners }
+machine_of a = record { snapshot = a.core.snapshot; owners = a.owners; journal = a.space.journal }
 
 abbrev pub run_of : Inside → Run
-run_of a = record { opening = a.core.opening; machine = machine_of a }
+run_of a = record { setting = setting_of a.core.opening a.space; machine = machine_of a }
 
 -- it is the machine of some scenario
 pub record IsRunning (a : Inside) : Type 0 where
   pub scenario : Scenario
   pub runnable : IsRunnable scenario
-  pub opened : a.core.opening ≡ opening scenario
+  pub set : setting_of a.core.opening a.space ≡ setting scenario
   pub kept : IsKept scenario (machine_of a)
   pub quiet : IsQuiet a.core.snapshot.views

@@ -5,7 +5,9 @@ use Rattle.evac_model.specs.declared.names.BlockNo.{BlockNo}
 use Rattle.evac_model.specs.declared.names.PageNo.{PageNo}
 use Rattle.evac_model.specs.declared.call.Call.{Call}
 use Rattle.evac_model.specs.declared.scenario.Scenario.{Scenario}
-use Rattle.evac_model.specs.ScenarioGrammar.{call_count}
+use Rattle.evac_model.specs.Pairing.{ArePaired, AreOutForPages, AreUnplugged}
+use Rattle.evac_model.specs.ScenarioGrammar.{call_count, online_of}
+use Rattle.evac_model.specs.SpaceJournal.{SpaceState, space_after, space_at_start}
 use Rattle.evac_model.specs.Page.{Page}
 use Rattle.evac_model.specs.State.{PlainState, start_state}
 use Rattle.evac_model.specs.History.{after_entries, IsLegal}
@@ -19,7 +21,7 @@ use Rattle.core_actors.specs.Owners.{OwnerState, owner_at_start, owner_ended}
 use Rattle.report.specs.declared.report.FinalPage.{FinalPage}
 use Rattle.report.specs.declared.report.Report.{Report}
 use Rattle.report.specs.FinalPages.{final_page, state_of}
-use Rattle.replay.specs.Machine.{Machine, after_turns}
+use Rattle.replay.specs.Machine.{Setting, Machine, after_turns}
 use Rattle.replay.specs.Schedule.{schedule, round_bound}
 
 -- ---- the run
@@ -29,17 +31,22 @@ abbrev pub budgets_of : List (List (PageNo × Call)) → List ℕ
 budgets_of scripts = map length scripts
 
 -- the owners from a number on, at the start of their scripts
-abbrev pub owners_from : ℕ → List (List (PageNo × Call)) → List OwnerState
-owners_from k [] = []
-owners_from k (script ∷ scripts) = owner_at_start k script ∷ owners_from (k + 1) scripts
+abbrev pub owners_from : (cells k : ℕ) → List (List (PageNo × Call)) → List OwnerState
+owners_from cells k [] = []
+owners_from cells k (script ∷ scripts) = owner_at_start k cells script ∷ owners_from cells (k + 1) scripts
 
 abbrev pub opening : Scenario → Opening
 opening s = opening_of s.geometry s.start (budgets_of s.owners)
 
+-- what a scenario's run begins with
+abbrev pub setting : Scenario → Setting
+setting s = record { opening = opening s; sizes = s.geometry; online = online_of s; space = space_at_start s.geometry s.start }
+
 abbrev pub machine_at_start : Scenario → Machine
 machine_at_start s = record {
   snapshot = record { words = opening_words s.geometry s.start; views = opening_views s.geometry s.start (budgets_of s.owners) };
-  owners = owners_from 1 s.owners;
+  owners = owners_from s.geometry.cells 1 s.owners;
+  journal = [];
 }
 
 abbrev pub AllEnded : List OwnerState → Type 0
@@ -48,7 +55,7 @@ AllEnded owners = (i : ℕ) (a : OwnerState) → slice_get owners i ≡ Some a �
 -- The machine after the run: the turns of the schedule were made, with as many rounds as the bound has,
 -- and all owners have ended. From the moment on when they have, a turn changes nothing.
 pub record IsScheduledRun (s : Scenario) (m : Machine) : Type 0 where
-  pub made : m ≡ after_turns (opening s) (machine_at_start s) (schedule s (round_bound s.geometry.cells (call_count s.owners)))
+  pub made : m ≡ after_turns (setting s) (machine_at_start s) (schedule s (round_bound s.geometry.cells (call_count s.owners)))
   pub ended : AllEnded m.owners
 
 -- ---- its report
@@ -70,9 +77,11 @@ abbrev pub first_blocks : ℕ → List BlockNo
 first_blocks zero = []
 first_blocks (suc n) = first_blocks n ++ (record { 0 = n }) ∷ []
 
--- what the machine leaves: the entries in ticket order, the plugged blocks, and the pages
+-- what the machine leaves: the entries in ticket order, the actions of the frame space, the plugged blocks, and
+-- the pages
 pub record IsReportAfter (s : Scenario) (m : Machine) (r : Report) : Type 0 where
   pub history : IsHistoryOf (opening s) m.snapshot.words m.snapshot.views r.history
+  pub space : r.space_journal ≡ m.journal
   pub pages : r.pages ≡ shown_below (opening s) m.snapshot.words s.geometry.pages
   pub plugged : r.plugged ≡ first_blocks s.geometry.plugged
 
@@ -88,11 +97,20 @@ pub record IsReportOfRun (s : Scenario) (r : Report) : Type 0 where
 abbrev pub plain_start : Scenario → PlainState
 plain_start s = start_state s.geometry.cells s.start
 
+-- the frame space behind the actions reported
+abbrev pub space_reported : Scenario → Report → SpaceState
+space_reported s r = space_after s.geometry (online_of s) (space_at_start s.geometry s.start) r.space_journal
+
 -- The calls reported, in ticket order, are one legal history of pages that never move, each script
--- call once, in its caller's order, and the pages reported are the state after it.
+-- call once, in its caller's order, and the pages reported are the state after it. The actions of the
+-- frame space are possible and are those of the calls, and a call has no frame only where none is free for it.
+-- The frames out at the end are those of the mapped pages, and the offline blocks those that aren't plugged.
 pub record IsReportOf (s : Scenario) (r : Report) : Type 0 where
   pub legal : IsLegal s.geometry.cells (plain_start s) r.history
   pub scripts : IsOfScripts s.owners r.history
   pub pages : state_of r.pages ≡ after_entries s.geometry.cells (plain_start s) r.history
   pub rising : IsStrictlyIncreasing (map (λ p. p.page.0) r.pages)
   pub plugged : r.plugged ≡ first_blocks s.geometry.plugged
+  pub space : ArePaired s.geometry (online_of s) (space_at_start s.geometry s.start) r.history r.space_journal
+  pub frames : AreOutForPages (space_reported s r) (after_entries s.geometry.cells (plain_start s) r.history)
+  pub offline : AreUnplugged s.geometry (space_reported s r) r.plugged

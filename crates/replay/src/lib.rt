@@ -8,6 +8,7 @@ mod owner_seat;
 mod pages;
 mod replay;
 mod schedule;
+mod space_calls;
 
 pub use laws::{
     bounds_count_turns, reports_tell_legal_histories, runs_end_within_their_bound, starts_are_kept,

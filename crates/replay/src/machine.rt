@@ -1,15 +1,17 @@
-//! The core and the owners, and their turns.
+//! The core, the frame space and the owners, and their turns.
 
 use crate::owner_seat::OwnerSeat;
 use core_state::Core;
-use evac_model::{Actor, Listed};
+use evac_model::{Actor, Listed, OutOfMemory};
+use space::Space;
 use std::marker::Model;
 
-/// The core, and each owner on its seat, that of owner 1 first. Contracts see what the run began with
-/// and the machine as it stands.
+/// The core, the frame space, and each owner on its seat, that of owner 1 first. Contracts see what the
+/// run began with and the machine as it stands.
 #[derive(Drop)]
 pub(crate) struct Running {
     pub(crate) core: Core,
+    pub(crate) space: Space,
     pub(crate) owners: Listed<OwnerSeat>,
 }
 
@@ -25,7 +27,7 @@ impl Model for Running {
 }
 
 impl Running {
-    ghost use Rattle.std.specs.Prelude.{◌≡◌, ◌∷◌, [], true, length};
+    ghost use Rattle.std.specs.Prelude.{◌≡◌, ◌∷◌, [], true, length, OnOk, OnErr};
     ghost use Rattle.replay.specs.Machine.{run_after};
     ghost use Rattle.replay.specs.Runs.{AllEnded};
 
@@ -36,25 +38,29 @@ impl Running {
         self.owners.len() as u32
     }
 
-    /// A turn of an owner.
-    fn owner_turn(&mut self, owner: u32)
-        ensures { self.new ≡ run_after self.old (Actor.Owner owner ∷ []) }
+    /// A turn of an owner. The seat of the free frames is the second behind those of the owners.
+    fn owner_turn(&mut self, owner: u32) -> Result<(), OutOfMemory>
+        ensures turned { OnOk result (self.new ≡ run_after self.old (Actor.Owner owner ∷ [])) }
+        ensures err { OnErr result (self.new ≡ self.old) }
     {
         let place = owner as usize;
         if place == 0 || place > self.owners.len() {
-            return;
+            return Ok(());
         }
+        let free = self.owner_count() + 2;
         let seat = self.owners.item_mut(place - 1);
-        seat.turn(&mut self.core, owner);
+        seat.turn(&mut self.core, &mut self.space, owner, free)
     }
 
-    /// A turn of an actor.
-    pub fn turn(&mut self, actor: Actor)
-        ensures { self.new ≡ run_after self.old (actor ∷ []) }
+    /// A turn of an actor. A lease takes the memory of the space's journal; where there is none, nothing
+    /// changes.
+    pub fn turn(&mut self, actor: Actor) -> Result<(), OutOfMemory>
+        ensures turned { OnOk result (self.new ≡ run_after self.old (actor ∷ [])) }
+        ensures err { OnErr result (self.new ≡ self.old) }
     {
         match actor {
             Actor::Owner(owner) => self.owner_turn(owner),
-            Actor::Host | Actor::Scanner => {}
+            Actor::Host | Actor::Scanner => Ok(()),
         }
     }
 

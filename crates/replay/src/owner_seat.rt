@@ -1,13 +1,17 @@
-//! An owner beside what it is to hear at its next turn.
+//! An owner beside what it is to hear at its next turn, and its turns.
 
 ghost use Rattle.std.specs.Prelude.{◌≡◌};
 ghost use Rattle.replay.specs.Seats.{heard_as};
 
+use crate::space_calls::ask;
 use core_actors::{Action, Heard, Others, Owner};
+use core_moves::step_move;
 use core_state::{Core, Seen};
+use evac_model::OutOfMemory;
+use space::Space;
 use std::marker::Model;
 
-/// An owner, and what its last step gave. Contracts see the owner as it stands once it has heard that.
+/// An owner, and what its last action gave. Contracts see the owner as it stands once it has heard that.
 #[derive(Drop)]
 pub struct OwnerSeat {
     owner: Owner,
@@ -48,12 +52,11 @@ fn heard_of(seen: Seen) -> Heard
 }
 
 impl OwnerSeat {
-    ghost use Rattle.std.specs.Prelude.{◌≡◌, ◌<◌, true, false, IsTrue, length};
+    ghost use Rattle.std.specs.Prelude.{◌≡◌, ◌≢◌, ◌<◌, ◌≤◌, true, length, OnOk, OnErr};
     ghost use Rattle.core_state.specs.CoreState.{IsSound};
-    ghost use Rattle.core_state.specs.Steps.{Allowed};
-    ghost use Rattle.core_state.specs.Views.{view_of};
-    ghost use Rattle.core_actors.specs.Owners.{owner_ended, next_step};
-    ghost use Rattle.replay.specs.Seats.{MayStep, snapshot_after_turn, owner_after_turn};
+    ghost use Rattle.core_actors.specs.Owners.{owner_ended};
+    ghost use Rattle.replay.specs.Machine.{after_next};
+    ghost use Rattle.replay.specs.Seats.{setting_of, scene, MayAct};
 
     /// An owner that has heard nothing yet.
     pub fn new(owner: Owner) -> OwnerSeat
@@ -73,22 +76,39 @@ impl OwnerSeat {
         self.ended
     }
 
-    /// Makes the owner's next step on its seat, if it hasn't ended.
-    pub fn turn(&mut self, core: &mut Core, seat: u32)
+    /// Makes the owner's next action on its seat, if it hasn't ended. The seat `free` has the free
+    /// frames in hand. Where a lease finds no memory, nothing changes.
+    pub fn turn(
+        &mut self,
+        core: &mut Core,
+        space: &mut Space,
+        seat: u32,
+        free: u32,
+    ) -> Result<(), OutOfMemory>
         requires seat { seat < length core.old.snapshot.views }
+        requires free { free < length core.old.snapshot.views }
+        requires apart { seat ≢ free }
+        requires caller { seat ≤ 16 }
         requires sound { IsSound core.old }
-        requires may { MayStep core.old.opening core.old.snapshot seat self.old }
-        ensures core { core.new.snapshot ≡ snapshot_after_turn core.old.opening core.old.snapshot seat self.old }
-        ensures owner { self.new ≡ owner_after_turn core.old.opening core.old.snapshot seat self.old }
+        requires may { MayAct (setting_of core.old.opening space.old) seat free (scene core.old.snapshot self.old space.old.journal) }
+        ensures turned { OnOk result (scene core.new.snapshot self.new space.new.journal
+            ≡ after_next (setting_of core.old.opening space.old) seat free (scene core.old.snapshot self.old space.old.journal)) }
         ensures sound { IsSound core.new }
-        ensures opening { core.new.opening ≡ core.old.opening }
+        ensures setting { setting_of core.new.opening space.new ≡ setting_of core.old.opening space.old }
+        ensures err { OnErr result ((scene core.new.snapshot self.new space.new.journal ≡ scene core.old.snapshot self.old space.old.journal)) }
     {
-        match self.owner.next(self.last, OTHERS) {
+        let action = self.owner.next(self.last, OTHERS);
+        // what was heard is heard once
+        self.last = Heard::Start;
+        match action {
             Action::Step(step) => self.last = heard_of(core.step(seat, step)),
-            Action::Ended => {
-                self.last = Heard::Start;
-                self.ended = true;
+            Action::Move(step) => {
+                step_move(core, seat, step);
+                self.last = Heard::Nothing;
             }
+            Action::Space(call) => self.last = ask(core, space, seat, free, call)?,
+            Action::Ended => self.ended = true,
         }
+        Ok(())
     }
 }

@@ -7,7 +7,7 @@ ghost use Rattle.evac_model.specs.ScenarioGrammar.{call_count};
 ghost use Rattle.evac_model.specs.Turns.{turn_count};
 ghost use Rattle.evac_model.specs.declared.scenario.Scenario.{Scenario};
 ghost use Rattle.replay.specs.Keeping.{IsKept};
-ghost use Rattle.replay.specs.Runs.{budgets_of, owners_from, opening, AllEnded, IsReportAfter};
+ghost use Rattle.replay.specs.Runs.{budgets_of, owners_from, setting, AllEnded, IsReportAfter};
 
 use crate::history::history;
 use crate::machine::Running;
@@ -16,8 +16,11 @@ use crate::pages::{final_pages, plugged_blocks};
 use crate::schedule;
 use core_actors::Owner;
 use core_state::Core;
-use evac_model::{CallList, Drawn, Geometry, Listed, OutOfMemory, Scenario, Turn, TurnList};
+use evac_model::{
+    CallList, Drawn, Geometry, Kind, Listed, OutOfMemory, Scenario, Turn, TurnList,
+};
 use report::Report;
+use space::Space;
 use std::alloc::{AllocError, Global};
 use std::marker::Model;
 
@@ -55,7 +58,7 @@ fn copied(alloc: Global, script: &CallList) -> Result<CallList, AllocError>
 fn owners(alloc: Global, g: &Geometry, scripts: &[CallList]) -> Result<Vec<OwnerSeat>, AllocError>
     requires calls { AllByRecursion (λ script. AllByRecursion (IsOwnerCall g.now) script) scripts.now }
     requires few { length scripts.now ≤ 16 }
-    ensures { IfOk result (λ v. v.items ≡ owners_from 1 scripts.now) }
+    ensures { IfOk result (λ v. v.items ≡ owners_from g.now.cells 1 scripts.now) }
 {
     let mut seats = Vec::with_capacity(alloc, scripts.len())?;
     let mut number = 0;
@@ -81,7 +84,7 @@ fn count_turns(turns: &[Turn]) -> u64
 /// What a machine leaves whose owners have all ended.
 fn report_of(alloc: Global, geometry: &Geometry, run: &Running) -> Result<Report, OutOfMemory>
     requires ended { AllEnded run.now.machine.owners }
-    ensures { IfOk result (λ report. (s : Scenario) → run.now.opening ≡ opening s → geometry.now ≡ s.geometry → IsKept s run.now.machine → IsReportAfter s run.now.machine report) }
+    ensures { IfOk result (λ report. (s : Scenario) → run.now.setting ≡ setting s → geometry.now ≡ s.geometry → IsKept s run.now.machine → IsReportAfter s run.now.machine report) }
 {
     let snapshot = run.core.snapshot();
     let words = snapshot.words.as_slice();
@@ -89,15 +92,17 @@ fn report_of(alloc: Global, geometry: &Geometry, run: &Running) -> Result<Report
     let history = history(alloc, snapshot.views.as_slice(), words[0] as usize)?;
     let pages = final_pages(alloc, opening, words)?;
     let plugged = plugged_blocks(alloc, geometry.plugged())?;
+    let journal = Vec::from_slice(alloc, run.space.journal())?;
     Ok(Report {
         history: Listed::from_vec(history),
+        space_journal: Listed::from_vec(journal),
         plugged: Listed::from_vec(plugged),
         pages: Listed::from_vec(pages),
     })
 }
 
 /// The replay of one scenario: its turns, and the machine at the start. Each turn makes one step of one
-/// actor: the next word step of an owner's call. The turns are the named ones, those that the generator
+/// actor: the next step of an owner's call on a word, or what it asks of the frame space. The turns are the named ones, those that the generator
 /// draws, and then rounds over all actors until all have ended.
 #[derive(Drop)]
 pub struct Replay {
@@ -124,24 +129,30 @@ impl Replay {
     ghost use Rattle.evac_model.specs.Scenarios.{IsRunnable};
     ghost use Rattle.replay.specs.Machine.{after_turns};
     ghost use Rattle.replay.specs.ReplayInside.{replay_of};
-    ghost use Rattle.replay.specs.Runs.{opening, machine_at_start, AllEnded, IsReportOfRun, IsReportOf};
+    ghost use Rattle.replay.specs.Runs.{setting, machine_at_start, AllEnded, IsReportOfRun, IsReportOf};
     ghost use Rattle.replay.specs.Schedule.{schedule, round_bound, turn_bound};
 
     /// The machine of a scenario at its start, and its turns. It takes the memory of the words, of the
-    /// views and of a copy of the scripts.
+    /// views, of the frame space and of a copy of the scripts.
     pub fn open(alloc: Global, s: &Scenario) -> Result<Replay, OutOfMemory>
         requires { IsRunnable s.now }
         ensures { IfOk result (λ r. r ≡ replay_of s.now) }
     {
         let budgets = budgets(alloc, s.owners.as_slice())?;
         let core = Core::open(alloc, s.geometry, s.start.as_slice(), budgets.as_slice())?;
+        let online = s.online.unwrap_or(Kind::Movable);
+        let space = Space::open(alloc, s.geometry, online, s.start.as_slice())?;
         let owners = Listed::from_vec(owners(alloc, &s.geometry, s.owners.as_slice())?);
         Ok(Replay {
             geometry: s.geometry,
             named: Listed::from_vec(Vec::from_slice(alloc, s.named.as_slice())?),
             drawn: s.drawn,
             calls: calls_in(s.owners.as_slice()),
-            running: Running { core, owners },
+            running: Running {
+                core,
+                space,
+                owners,
+            },
         })
     }
 
@@ -157,7 +168,7 @@ impl Replay {
     pub fn bound(&self) -> u64
         ensures bound { (s : Scenario) → self.now ≡ replay_of s → result ≡ turn_bound s }
         ensures ended { (s : Scenario) → IsRunnable s → self.now ≡ replay_of s → (length (schedule s (round_bound s.geometry.cells self.now.calls)) ≡ result)
-            × AllEnded (after_turns (opening s) (machine_at_start s) (schedule s (round_bound s.geometry.cells self.now.calls))).owners }
+            × AllEnded (after_turns (setting s) (machine_at_start s) (schedule s (round_bound s.geometry.cells self.now.calls))).owners }
     {
         let drawn = match &self.drawn {
             Some(d) => u64::from(d.count),
@@ -168,7 +179,7 @@ impl Replay {
     }
 
     /// Makes the turns of the schedule, and reports what they leave. Each answer of a call is given by
-    /// its steps; want of memory comes only where the report takes some.
+    /// its steps. It takes the memory of the space's journal, turn by turn, and of the report.
     pub fn run(self, alloc: Global) -> Result<Report, OutOfMemory>
         ensures run { IfOk result (λ report. (s : Scenario) → IsRunnable s → self ≡ replay_of s → IsReportOfRun s report) }
         ensures theorem { IfOk result (λ report. (s : Scenario) → IsRunnable s → self ≡ replay_of s → IsReportOf s report) }
@@ -183,9 +194,9 @@ impl Replay {
         } = self;
         let mut run = running;
         let owners = run.owner_count();
-        schedule::named(&mut run, named.as_slice());
-        schedule::drawn(&mut run, owners, &drawn);
-        schedule::rounds(&mut run, owners, most);
+        schedule::named(&mut run, named.as_slice())?;
+        schedule::drawn(&mut run, owners, &drawn)?;
+        schedule::rounds(&mut run, owners, most)?;
         report_of(alloc, &geometry, &run)
     }
 }

@@ -88,10 +88,11 @@ fn small(
     scripts: Vec<CallList>,
 ) -> Result<Scenario, Fail>
     ensures { IfOk result (λ s. s
-        ≡ record { geometry = record { cells = 2; block = 4; boot = 2; managed = 4; plugged = 4; pages = 8 }; start = START; named = named.now; drawn = drawn; owners = scripts.items }) }
+        ≡ record { geometry = record { cells = 2; block = 4; boot = 2; managed = 4; plugged = 4; pages = 8 }; online = None; start = START; named = named.now; drawn = drawn; owners = scripts.items }) }
 {
     Ok(Scenario {
         geometry: Geometry::new(2, 4, 2, 4, 4, 8)?,
+        online: None,
         start: Listed::from_vec(Vec::from_slice(alloc, &START)?),
         named: Listed::from_vec(Vec::from_slice(alloc, named)?),
         drawn,

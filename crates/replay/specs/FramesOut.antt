@@ -1,0 +1,39 @@
+-- Where the frames are while the machine runs, as the space's journal has them.
+use Rattle.std.specs.Prelude.{◌≡◌, ◌≢◌, ◌⊎◌, ◌↔◌, ℕ, suc, ◌+◌, ◌<◌, true, false, List, [], ◌∷◌, length, slice_get, Option, Some, None, IsSome}
+use Rattle.evac_model.specs.declared.names.FrameNo.{FrameNo}
+use Rattle.evac_model.specs.declared.names.PageNo.{PageNo}
+use Rattle.evac_model.specs.declared.call.Call.{Call}
+use Rattle.evac_model.specs.declared.call.Call.TheVariants.{Alloc}
+use Rattle.evac_model.specs.declared.scenario.Scenario.{Scenario}
+use Rattle.evac_model.specs.Geometry.{frame_count}
+use Rattle.evac_model.specs.ScenarioGrammar.{online_of}
+use Rattle.evac_model.specs.SpaceJournal.{SpaceState, out_for, is_frame_in, space_at_start, IsPossibleJournal}
+use Rattle.evac_words.specs.Word.{mapped_bit, frame_of}
+use Rattle.core_state.specs.Words.{entry_word_of, kind_in}
+use Rattle.core_state.specs.Views.{view_of, hand_frame}
+use Rattle.core_actors.specs.Owners.{OwnerState}
+use Rattle.replay.specs.Machine.{Machine, free_seat, space_at}
+use Rattle.replay.specs.Runs.{setting}
+
+-- the seat has the frame in hand
+abbrev pub HasFrame : Machine → (seat frame : ℕ) → Type 0
+HasFrame m seat frame = IsSome (hand_frame (view_of m.snapshot.views seat) frame)
+
+abbrev pub space_now : Scenario → Machine → SpaceState
+space_now s m = space_at (setting s) m.journal
+
+-- a frame in an owner's hand is out: that of an alloc under way for its page and kind
+abbrev pub IsOutForCall : SpaceState → List (PageNo × Call) → (back : Option FrameNo) → (frame : ℕ) → Type 0
+IsOutForCall st ((page, Alloc kind) ∷ cs) None frame = out_for st frame ≡ Some (record { page = page.0; kind = kind })
+IsOutForCall st calls back frame = out_for st frame ≢ None
+
+-- The journal is possible. The hand of the free frames has exactly those that are neither out nor in an offline
+-- block, that of the unplugged ones those of offline blocks, and the driver's and the scanner's are empty. A
+-- mapped page's frame is out for it, with its kind, and a frame in an owner's hand for its call.
+pub record AreFramesPlaced (s : Scenario) (m : Machine) : Type 0 where
+  pub possible : IsPossibleJournal s.geometry (online_of s) (space_at_start s.geometry s.start) m.journal
+  pub free : (frame : ℕ) → frame < frame_count s.geometry → HasFrame m (free_seat (length m.owners)) frame ↔ ((out_for (space_now s m) frame ≡ None) × (is_frame_in s.geometry (space_now s m).offline frame ≡ false))
+  pub unplugged : (frame : ℕ) → frame < frame_count s.geometry → HasFrame m (free_seat (length m.owners) + 1) frame ↔ (is_frame_in s.geometry (space_now s m).offline frame ≡ true)
+  pub empty : (seat frame : ℕ) → (seat ≡ 0) ⊎ (seat ≡ length m.owners + 1) → hand_frame (view_of m.snapshot.views seat) frame ≡ None
+  pub mapped : (page : ℕ) → page < s.geometry.pages → mapped_bit (entry_word_of m.snapshot.words page) ≡ 1 → out_for (space_now s m) (frame_of (entry_word_of m.snapshot.words page)) ≡ Some (record { page = page; kind = kind_in (entry_word_of m.snapshot.words page) })
+  pub in_hand : (i : ℕ) (a : OwnerState) (frame : ℕ) → slice_get m.owners i ≡ Some a → HasFrame m (suc i) frame → IsOutForCall (space_now s m) a.left a.back frame
