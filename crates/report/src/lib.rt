@@ -2,7 +2,9 @@
 #![tactic(auto)]
 
 mod report;
+mod space_text;
 mod text;
+mod words;
 
 pub use report::{FinalPage, FinalPageList, Report};
 pub use text::write_report;

@@ -3,48 +3,15 @@
 ghost use Rattle.std.specs.Prelude.{◌≡◌, List, [], ◌∷◌, ◌++◌, ℕ, codes, map, OnOk, IfOk};
 ghost use Rattle.std.specs.List.{flat_map};
 ghost use Rattle.std.specs.Fmt.{decimal};
-ghost use Rattle.evac_model.specs.Spelling.{kind_word, call_words};
+ghost use Rattle.evac_model.specs.Spelling.{call_words};
 ghost use Rattle.report.specs.ReportText.{behind_space, reply_words, entry_text, plugged_text, cell_words, page_text, report_text};
 
 use crate::report::{FinalPage, Report};
-use evac_model::{BlockNo, ByteList, Call, Entry, Kind, OutOfMemory, PageNo, Reply};
+use crate::space_text::put_actions;
+use crate::words::{put_kind, put_number, put_numbers, put_word};
+use evac_model::{BlockNo, ByteList, Call, Entry, OutOfMemory, PageNo, Reply};
 use itoa::Buffer;
 use std::alloc::{AllocError, Global};
-
-/// Adds a space and a word.
-fn put_word(out: &mut Vec<u8>, word: &[u8]) -> Result<(), AllocError>
-    ensures { OnOk result (out.new.items ≡ out.old.items ++ behind_space word.now) }
-{
-    out.push(b' ')?;
-    out.extend_from_slice(word)
-}
-
-/// Adds a space and a number in decimal.
-fn put_number(out: &mut Vec<u8>, n: u64) -> Result<(), AllocError>
-    ensures { OnOk result (out.new.items ≡ out.old.items ++ behind_space (decimal n)) }
-{
-    let mut buffer = Buffer::new();
-    put_word(out, buffer.format(n).as_bytes())
-}
-
-/// Adds numbers, a space before each.
-fn put_numbers(out: &mut Vec<u8>, numbers: &[u64]) -> Result<(), AllocError>
-    ensures { OnOk result (out.new.items ≡ out.old.items ++ flat_map behind_space (map decimal numbers.now)) }
-{
-    for n in numbers {
-        put_number(out, *n)?;
-    }
-    Ok(())
-}
-
-fn put_kind(out: &mut Vec<u8>, kind: Kind) -> Result<(), AllocError>
-    ensures { OnOk result (out.new.items ≡ out.old.items ++ behind_space (kind_word kind)) }
-{
-    match kind {
-        Kind::Movable => put_word(out, b"movable"),
-        Kind::Unmovable => put_word(out, b"unmovable"),
-    }
-}
 
 /// Adds the name of a call and its page.
 fn put_name(out: &mut Vec<u8>, name: &[u8], page: PageNo) -> Result<(), AllocError>
@@ -182,13 +149,14 @@ fn put_report(out: &mut Vec<u8>, report: &Report) -> Result<(), AllocError>
     ensures { OnOk result (out.new.items ≡ out.old.items ++ report_text report.now) }
 {
     put_entries(out, report.history.as_slice())?;
+    put_actions(out, report.space_journal.as_slice())?;
     put_plugged(out, report.plugged.as_slice())?;
     put_pages(out, report.pages.as_slice())?;
     out.extend_from_slice(b"end\n")
 }
 
-/// The text of a report: a line for each call in ticket order, the plugged blocks, a line for each
-/// page, and `end`. Each line ends with LF.
+/// The text of a report: a line for each call in ticket order and for each action of the frame space,
+/// the plugged blocks, a line for each page, and `end`. Each line ends with LF.
 pub fn write_report(alloc: Global, report: &Report) -> Result<ByteList, OutOfMemory>
     ensures { IfOk result (λ text. text ≡ report_text report.now) }
 {
