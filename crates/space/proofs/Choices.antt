@@ -178,7 +178,7 @@ kernel_leased r₀ r₁ cs₀ cs₁ st result w h found taken same =
     (kernel_step r₀ r₁ cs₀ cs₁ st (chosen_run r₀.sizes r₀.online r₀.free 0 Unmovable) result w h refl found taken same)
 
 -- a frame was taken from the caller's cache, or none
-cache_step : (r : FreeFrames) (cs : List (List ℕ)) (st : SpaceState) (who : ℕ) (held : List ℕ) (result : Option FrameNo) (frame : FrameNo) → IsSpace r.sizes st → r ≡ runs_of r.sizes r.online st → get_or st.caches who [] ≡ held → result ≡ option_map (λ l. record { 0 = l.frame }) (from_cache st.caches who held) → MatchOption (from_cache st.caches who held) (cs ≡ st.caches) (λ l. cs ≡ l.caches) → result ≡ Some frame → IsBehindLease r.sizes r.online st Movable (from_cache st.caches who held) result r cs
+cache_step : (r : FreeFrames) (cs : List (List ℕ)) (st : SpaceState) (who : ℕ) (held : List ℕ) (result : Option FrameNo) (frame : FrameNo) → IsSpace r.sizes r.online st → r ≡ runs_of r.sizes r.online st → get_or st.caches who [] ≡ held → result ≡ option_map (λ l. record { 0 = l.frame }) (from_cache st.caches who held) → MatchOption (from_cache st.caches who held) (cs ≡ st.caches) (λ l. cs ≡ l.caches) → result ≡ Some frame → IsBehindLease r.sizes r.online st Movable (from_cache st.caches who held) result r cs
 cache_step r cs st who [] result frame space free e found left some = cc
 cache_step r cs st who (first ∷ rest) result frame space free e found left some =
     record { leased = found; free = free ∙ sym (cached_taken r.sizes r.online st who first 0 rest Movable space e); cached = left }

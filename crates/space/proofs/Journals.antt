@@ -92,78 +92,78 @@ length_rising : (n : ℕ) (xs ys : List ℕ) → IsRisingBelow n xs → IsRising
 length_rising n xs ys hx hy h =
     omega (arith, ap length hx, ap length hy, length_filters (λ (k : ℕ). is_in k xs) (λ (k : ℕ). is_in k ys) (range_with_len 0 n) h)
 
-offline_few : (s : Sizes) (st : SpaceState) → IsSpace s st → length st.offline ≤ length st.isolated
-offline_few s st h = length_rising s.managed st.offline st.isolated h.offline h.isolated h.offline_isolated
+offline_few : (s : Sizes) (online : Kind) (st : SpaceState) → IsSpace s online st → length st.offline ≤ length st.isolated
+offline_few s online st h = length_rising s.managed st.offline st.isolated h.offline h.isolated h.offline_isolated
 
 -- how many actions may follow
-pub owed_return : (k : KeptSpace) (owed who : ℕ) (frame : FrameNo) (next : KeptSpace) → IsSpace k.sizes k.state → IsOwed k.state owed → out_for k.state frame.0 ≢ None → next ≡ behind (Return who frame) k → (1 ≤ owed) × IsOwed next.state (owed - 1)
+pub owed_return : (k : KeptSpace) (owed who : ℕ) (frame : FrameNo) (next : KeptSpace) → IsSpace k.sizes k.online k.state → IsOwed k.state owed → out_for k.state frame.0 ≢ None → next ≡ behind (Return who frame) k → (1 ≤ owed) × IsOwed next.state (owed - 1)
 owed_return k owed who frame next space h ne e =
-    let l : frame.0 < length k.state.out = omega (arith, out_in_count k.sizes k.state frame.0 space ne, space.out) in
+    let l : frame.0 < length k.state.out = omega (arith, out_in_count k.sizes k.online k.state frame.0 space ne, space.out) in
     let fewer : count_by is_some (set k.state.out frame.0 None) + 1 ≡ count_by is_some k.state.out = count_cleared k.state.out frame.0 l (is_out-from k.state frame.0 ne) in
-    let few : length k.state.offline ≤ length k.state.isolated = offline_few k.sizes k.state space in
+    let few : length k.state.offline ≤ length k.state.isolated = offline_few k.sizes k.online k.state space in
     let some : 1 ≤ owed = omega (arith, h, fewer, few) in
     let P : KeptSpace → Type 0 = λ x. (1 ≤ owed) × IsOwed x.state (owed - 1) in
     subst P (sym e) (some, omega (arith, h, fewer, some))
 
-pub owed_isolate : (k : KeptSpace) (owed : ℕ) (b : BlockNo) (next : KeptSpace) → IsSpace k.sizes k.state → IsOwed k.state owed → b.0 < k.sizes.managed → is_in b.0 k.state.isolated ≡ false → next ≡ behind (Isolate b) k → IsOwed next.state (owed + 2)
+pub owed_isolate : (k : KeptSpace) (owed : ℕ) (b : BlockNo) (next : KeptSpace) → IsSpace k.sizes k.online k.state → IsOwed k.state owed → b.0 < k.sizes.managed → is_in b.0 k.state.isolated ≡ false → next ≡ behind (Isolate b) k → IsOwed next.state (owed + 2)
 owed_isolate k owed b next space h l none e =
     let more : length (with_block k.sizes b.0 k.state.isolated) ≡ length k.state.isolated + 1 = length-with_block k.sizes b.0 k.state.isolated space.isolated l none in
     let P : KeptSpace → Type 0 = λ x. IsOwed x.state (owed + 2) in
     subst P (sym e) (omega (arith, h, more))
 
-pub owed_undo : (k : KeptSpace) (owed : ℕ) (b : BlockNo) (next : KeptSpace) → IsSpace k.sizes k.state → IsOwed k.state owed → is_in b.0 k.state.isolated ≡ true → is_in b.0 k.state.offline ≡ false → next ≡ behind (Undo b) k → (2 ≤ owed) × IsOwed next.state (owed - 2)
+pub owed_undo : (k : KeptSpace) (owed : ℕ) (b : BlockNo) (next : KeptSpace) → IsSpace k.sizes k.online k.state → IsOwed k.state owed → is_in b.0 k.state.isolated ≡ true → is_in b.0 k.state.offline ≡ false → next ≡ behind (Undo b) k → (2 ≤ owed) × IsOwed next.state (owed - 2)
 owed_undo k owed b next space h there off e =
     let fewer : length (without_block b.0 k.state.isolated) + 1 ≡ length k.state.isolated = length-without_block k.sizes.managed b.0 k.state.isolated space.isolated there in
-    let few : length k.state.offline ≤ length (without_block b.0 k.state.isolated) = offline_few k.sizes (undone_state b.0 k.state) (space_undone k.sizes k.state b.0 space off) in
+    let few : length k.state.offline ≤ length (without_block b.0 k.state.isolated) = offline_few k.sizes k.online (undone_state b.0 k.state) (space_undone k.sizes k.online k.state b.0 space off) in
     let some : 2 ≤ owed = omega (arith, h, fewer, few) in
     let P : KeptSpace → Type 0 = λ x. (2 ≤ owed) × IsOwed x.state (owed - 2) in
     subst P (sym e) (some, omega (arith, h, fewer, some))
 
-pub owed_offline : (k : KeptSpace) (owed : ℕ) (b : BlockNo) (next : KeptSpace) → IsSpace k.sizes k.state → IsOwed k.state owed → is_in b.0 k.state.isolated ≡ true → is_in b.0 k.state.offline ≡ false → next ≡ behind (Offline b) k → (1 ≤ owed) × IsOwed next.state (owed - 1)
+pub owed_offline : (k : KeptSpace) (owed : ℕ) (b : BlockNo) (next : KeptSpace) → IsSpace k.sizes k.online k.state → IsOwed k.state owed → is_in b.0 k.state.isolated ≡ true → is_in b.0 k.state.offline ≡ false → next ≡ behind (Offline b) k → (1 ≤ owed) × IsOwed next.state (owed - 1)
 owed_offline k owed b next space h there off e =
     let l : b.0 < k.sizes.managed = is_in_bound k.sizes.managed k.state.isolated b.0 space.isolated there in
     let more : length (with_block k.sizes b.0 k.state.offline) ≡ length k.state.offline + 1 = length-with_block k.sizes b.0 k.state.offline space.offline l off in
     let fewer : length (without_block b.0 k.state.isolated) + 1 ≡ length k.state.isolated = length-without_block k.sizes.managed b.0 k.state.isolated space.isolated there in
-    let few : length k.state.offline ≤ length k.state.isolated = offline_few k.sizes k.state space in
+    let few : length k.state.offline ≤ length k.state.isolated = offline_few k.sizes k.online k.state space in
     let some : 1 ≤ owed = omega (arith, h, fewer, few) in
     let P : KeptSpace → Type 0 = λ x. (1 ≤ owed) × IsOwed x.state (owed - 1) in
     subst P (sym e) (some, omega (arith, h, more, some))
 
-pub owed_online : (k : KeptSpace) (owed : ℕ) (b : BlockNo) (next : KeptSpace) → IsSpace k.sizes k.state → IsOwed k.state owed → is_in b.0 k.state.offline ≡ true → next ≡ behind (Online b) k → (1 ≤ owed) × IsOwed next.state (owed - 1)
+pub owed_online : (k : KeptSpace) (owed : ℕ) (b : BlockNo) (next : KeptSpace) → IsSpace k.sizes k.online k.state → IsOwed k.state owed → is_in b.0 k.state.offline ≡ true → next ≡ behind (Online b) k → (1 ≤ owed) × IsOwed next.state (owed - 1)
 owed_online k owed b next space h there e =
     let fewer : length (without_block b.0 k.state.offline) + 1 ≡ length k.state.offline = length-without_block k.sizes.managed b.0 k.state.offline space.offline there in
     let fewer_isolated : length (without_block b.0 k.state.isolated) + 1 ≡ length k.state.isolated = length-without_block k.sizes.managed b.0 k.state.isolated space.isolated (space.offline_isolated b.0 there) in
-    let few : length k.state.offline ≤ length k.state.isolated = offline_few k.sizes k.state space in
+    let few : length k.state.offline ≤ length k.state.isolated = offline_few k.sizes k.online k.state space in
     let some : 1 ≤ owed = omega (arith, h, fewer, fewer_isolated, few) in
     let P : KeptSpace → Type 0 = λ x. (1 ≤ owed) × IsOwed x.state (owed - 1) in
     subst P (sym e) (some, omega (arith, h, fewer, fewer_isolated, some))
 
 -- they are few
-pub owed_small : (k : KeptSpace) (owed : ℕ) → IsWithinLimits k.sizes → IsSpace k.sizes k.state → IsOwed k.state owed → owed ≤ 200000
+pub owed_small : (k : KeptSpace) (owed : ℕ) → IsWithinLimits k.sizes → IsSpace k.sizes k.online k.state → IsOwed k.state owed → owed ≤ 200000
 owed_small k owed w space h =
     let isolated : length k.state.isolated ≤ k.sizes.managed = omega (arith, ap length space.isolated, length-numbers_where (λ (b : ℕ). is_in b k.state.isolated) k.sizes.managed) in
     omega (arith, h, count_by-le-length is_some k.state.out, space.out, w.frames, isolated, w.managed.1)
 
 -- the same, as the journal tells it
-pub return_owed : (v : JournaledSpace) (k : KeptSpace) (used owed room who : ℕ) (frame : FrameNo) (next : KeptSpace) → IsLeftBy v k used owed room → IsSpace k.sizes k.state → out_for (state_of v) frame.0 ≢ None → next ≡ behind (Return who frame) k → (1 ≤ owed) × IsOwed next.state (owed - 1)
+pub return_owed : (v : JournaledSpace) (k : KeptSpace) (used owed room who : ℕ) (frame : FrameNo) (next : KeptSpace) → IsLeftBy v k used owed room → IsSpace k.sizes k.online k.state → out_for (state_of v) frame.0 ≢ None → next ≡ behind (Return who frame) k → (1 ≤ owed) × IsOwed next.state (owed - 1)
 return_owed v k used owed room who frame next h space ne e =
     let P : KeptSpace → Type 0 = λ x. out_for x.state frame.0 ≢ None in
     owed_return k owed who frame next space h.owed_for (subst P (sym h.left) ne) e
 
-pub isolate_owed : (v : JournaledSpace) (k : KeptSpace) (used owed room : ℕ) (b : BlockNo) (next : KeptSpace) → IsLeftBy v k used owed room → IsSpace k.sizes k.state → b.0 < v.sizes.managed → is_in b.0 (state_of v).isolated ≡ false → next ≡ behind (Isolate b) k → IsOwed next.state (owed + 2)
+pub isolate_owed : (v : JournaledSpace) (k : KeptSpace) (used owed room : ℕ) (b : BlockNo) (next : KeptSpace) → IsLeftBy v k used owed room → IsSpace k.sizes k.online k.state → b.0 < v.sizes.managed → is_in b.0 (state_of v).isolated ≡ false → next ≡ behind (Isolate b) k → IsOwed next.state (owed + 2)
 isolate_owed v k used owed room b next h space l none e =
     let P : KeptSpace → Type 0 = λ x. b.0 < x.sizes.managed in
     owed_isolate k owed b next space h.owed_for (subst P (sym h.left) l) (ap (λ (x : KeptSpace). is_in b.0 x.state.isolated) h.left ∙ none) e
 
-pub undo_owed : (v : JournaledSpace) (k : KeptSpace) (used owed room : ℕ) (b : BlockNo) (next : KeptSpace) → IsLeftBy v k used owed room → IsSpace k.sizes k.state → is_in b.0 (state_of v).isolated ≡ true → is_in b.0 (state_of v).offline ≡ false → next ≡ behind (Undo b) k → (2 ≤ owed) × IsOwed next.state (owed - 2)
+pub undo_owed : (v : JournaledSpace) (k : KeptSpace) (used owed room : ℕ) (b : BlockNo) (next : KeptSpace) → IsLeftBy v k used owed room → IsSpace k.sizes k.online k.state → is_in b.0 (state_of v).isolated ≡ true → is_in b.0 (state_of v).offline ≡ false → next ≡ behind (Undo b) k → (2 ≤ owed) × IsOwed next.state (owed - 2)
 undo_owed v k used owed room b next h space there off e =
     owed_undo k owed b next space h.owed_for (ap (λ (x : KeptSpace). is_in b.0 x.state.isolated) h.left ∙ there) (ap (λ (x : KeptSpace). is_in b.0 x.state.offline) h.left ∙ off) e
 
-pub offline_owed : (v : JournaledSpace) (k : KeptSpace) (used owed room : ℕ) (b : BlockNo) (next : KeptSpace) → IsLeftBy v k used owed room → IsSpace k.sizes k.state → is_in b.0 (state_of v).isolated ≡ true → is_in b.0 (state_of v).offline ≡ false → next ≡ behind (Offline b) k → (1 ≤ owed) × IsOwed next.state (owed - 1)
+pub offline_owed : (v : JournaledSpace) (k : KeptSpace) (used owed room : ℕ) (b : BlockNo) (next : KeptSpace) → IsLeftBy v k used owed room → IsSpace k.sizes k.online k.state → is_in b.0 (state_of v).isolated ≡ true → is_in b.0 (state_of v).offline ≡ false → next ≡ behind (Offline b) k → (1 ≤ owed) × IsOwed next.state (owed - 1)
 offline_owed v k used owed room b next h space there off e =
     owed_offline k owed b next space h.owed_for (ap (λ (x : KeptSpace). is_in b.0 x.state.isolated) h.left ∙ there) (ap (λ (x : KeptSpace). is_in b.0 x.state.offline) h.left ∙ off) e
 
-pub online_owed : (v : JournaledSpace) (k : KeptSpace) (used owed room : ℕ) (b : BlockNo) (next : KeptSpace) → IsLeftBy v k used owed room → IsSpace k.sizes k.state → is_in b.0 (state_of v).offline ≡ true → next ≡ behind (Online b) k → (1 ≤ owed) × IsOwed next.state (owed - 1)
+pub online_owed : (v : JournaledSpace) (k : KeptSpace) (used owed room : ℕ) (b : BlockNo) (next : KeptSpace) → IsLeftBy v k used owed room → IsSpace k.sizes k.online k.state → is_in b.0 (state_of v).offline ≡ true → next ≡ behind (Online b) k → (1 ≤ owed) × IsOwed next.state (owed - 1)
 online_owed v k used owed room b next h space there e =
     owed_online k owed b next space h.owed_for (ap (λ (x : KeptSpace). is_in b.0 x.state.offline) h.left ∙ there) e
 

@@ -1,13 +1,12 @@
 -- A space that is kept with its journal, behind one more action.
-use Rattle.std.specs.List.{AllByRecursion}
 use Rattle.evac_model.specs.declared.names.Kind.{Kind}
 use Rattle.space.proofs.Opens.{space_at_start_is_space}
 use Rattle.std.proofs.Common.{◌≡◌, ℕ, ◌+◌, ◌≤◌, List, [], ◌∷◌, ◌++◌, refl, sym, ap, ◌∙◌, subst, arith}
 use Rattle.evac_model.specs.declared.scenario.StartPage.{StartPage}
 use Rattle.evac_model.specs.declared.space.SpaceAction.{SpaceAction}
-use Rattle.evac_model.specs.Geometry.{Sizes, IsWithinLimits, IsThereAtStart}
+use Rattle.evac_model.specs.Geometry.{Sizes, IsWithinLimits}
 use Rattle.evac_model.specs.SpaceJournal.{space_at_start, IsPossible, IsPossibleJournal}
-use Rattle.space.specs.JournaledSpace.{JournaledSpace, state_of, with_action}
+use Rattle.space.specs.JournaledSpace.{JournaledSpace, state_of, with_action, AreStartFrames}
 use Rattle.space.specs.KeptSpace.{KeptSpace, behind}
 use Rattle.space.specs.KeptJournal.{journaled, left_by, IsLeftBy}
 use Rattle.space.specs.SpaceInside.{IsSpace, IsOwed}
@@ -26,8 +25,8 @@ possible_left v k used owed room a h here =
 within_same : (k next : KeptSpace) → next ≡ k → IsWithinLimits k.sizes → IsWithinLimits next.sizes
 within_same k next e h = let P : KeptSpace → Type 0 = λ x. IsWithinLimits x.sizes in subst P (sym e) h
 
-space_same : (k next : KeptSpace) → next ≡ k → IsSpace k.sizes k.state → IsSpace next.sizes next.state
-space_same k next e h = let P : KeptSpace → Type 0 = λ x. IsSpace x.sizes x.state in subst P (sym e) h
+space_same : (k next : KeptSpace) → next ≡ k → IsSpace k.sizes k.online k.state → IsSpace next.sizes next.online next.state
+space_same k next e h = let P : KeptSpace → Type 0 = λ x. IsSpace x.sizes x.online x.state in subst P (sym e) h
 
 pub left_behind : (v : JournaledSpace) (k next : KeptSpace) (used owed room used2 owed2 room2 : ℕ) (a : SpaceAction) → IsLeftBy v k used owed room → next ≡ behind a k → IsPossible v.sizes v.online (state_of v) a → IsOwed next.state owed2 → used2 + owed2 ≤ room2 → IsLeftBy (with_action a v) next used2 owed2 room2
 left_behind v k next used owed room used2 owed2 room2 a h e here owed_for enough = record {
@@ -54,14 +53,14 @@ left_next k next start journal journal2 used owed room used2 owed2 room2 a v e h
     subst P (sym (journaled-with_action k next start journal journal2 a v e en ej)) (left_behind v k next used owed room used2 owed2 room2 a h en here owed_for enough)
 
 -- a space that is opened
-pub left_at_start : (k : KeptSpace) (s : Sizes) (online : Kind) (start pages : List StartPage) (journal : List SpaceAction) (used owed room : ℕ) → IsWithinLimits s → AllByRecursion (λ p. IsThereAtStart s p.frame.0) start → k ≡ record { sizes = s; online = online; state = space_at_start s start } → pages ≡ start → journal ≡ [] → used ≡ 0 → IsOwed k.state owed → owed ≤ room → IsLeftBy (journaled k pages journal) k used owed room
-left_at_start k s online start pages journal used owed room within there e ep ej eu owed_for enough =
+pub left_at_start : (k : KeptSpace) (s : Sizes) (online : Kind) (start pages : List StartPage) (journal : List SpaceAction) (used owed room : ℕ) → IsWithinLimits s → AreStartFrames s online start → k ≡ record { sizes = s; online = online; state = space_at_start s start } → pages ≡ start → journal ≡ [] → used ≡ 0 → IsOwed k.state owed → owed ≤ room → IsLeftBy (journaled k pages journal) k used owed room
+left_at_start k s online start pages journal used owed room within starts e ep ej eu owed_for enough =
     let opened : KeptSpace = record { sizes = s; online = online; state = space_at_start s start } in
     let left : KeptSpace → List StartPage → List SpaceAction → Type 0 = λ x ps xs. x ≡ left_by (journaled x ps xs) in
     let possible : List SpaceAction → Type 0 = λ xs. IsPossibleJournal k.sizes k.online (space_at_start k.sizes pages) xs in
     record {
       within = within_same opened k e within;
-      space = space_same opened k e (space_at_start_is_space s start within.plugged there);
+      space = space_same opened k e (space_at_start_is_space s online start within.plugged starts);
       left = subst (λ (xs : List SpaceAction). left k pages xs) (sym ej) (subst (λ (ps : List StartPage). left k ps []) (sym ep) (subst (λ (x : KeptSpace). left x start []) (sym e) refl));
       possible = subst possible (sym ej) tt;
       owed_for = owed_for;

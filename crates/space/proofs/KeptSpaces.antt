@@ -14,7 +14,7 @@ use Rattle.evac_model.specs.declared.space.SpaceAction.TheVariants.{Return, Isol
 use Rattle.evac_model.specs.Geometry.{Sizes, frame_count, first_frame}
 use Rattle.evac_model.specs.Numbers.{is_in, is_between}
 use Rattle.evac_model.proofs.Numbers.{is_in-numbers_where, is_in-numbers_where_past}
-use Rattle.evac_model.specs.SpaceJournal.{SpaceState, Out, out_for, is_frame_of, is_frame_in, with_block, without_block, put_back, caches_after_return, IsEmptied}
+use Rattle.evac_model.specs.SpaceJournal.{SpaceState, Out, out_for, is_frame_of, is_frame_in, with_block, without_block, put_back, caches_after_return, IsEmptied, HasMovableAlone}
 use Rattle.buddy.specs.FreeFrames.{FreeFrames, with_frames, with_withdrawn, with_restored}
 use Rattle.frame_cache.specs.Drains.{IsGivable, IsDrainable}
 use Rattle.page_blocks.specs.BlocksInside.{blocks_marked}
@@ -79,13 +79,13 @@ drainable_kept k r m held bits h =
     subst (λ (y : List (List ℕ)). P r y) (sym h.caches) (subst (λ (x : FreeFrames). P x k.state.caches) (sym h.runs) (drainable k.sizes k.online k.state h.space))
 
 -- isolation
-pub isolate_kept : (k : KeptSpace) (r : FreeFrames) (m : Marks) (held : List (List ℕ)) (bits : List Bool) (b : BlockNo) (r2 : FreeFrames) (m2 : Marks) (held2 : List (List ℕ)) → AreOf k r m held bits → b.0 < k.sizes.managed → m2 ≡ record m { isolated = with_block m.sizes b.0 m.isolated } → held2 ≡ map (filter (λ f. not (is_frame_of r.sizes b.0 f))) held → r2 ≡ with_withdrawn b.0 (with_frames (λ f. list_any (is_in f) held && is_frame_of r.sizes b.0 f) r) → AreOf (behind (Isolate b) k) r2 m2 held2 bits
-isolate_kept k r m held bits b r2 m2 held2 h l em eh er =
+pub isolate_kept : (k : KeptSpace) (r : FreeFrames) (m : Marks) (held : List (List ℕ)) (bits : List Bool) (b : BlockNo) (r2 : FreeFrames) (m2 : Marks) (held2 : List (List ℕ)) → AreOf k r m held bits → b.0 < k.sizes.managed → HasMovableAlone k.sizes k.state b.0 → m2 ≡ record m { isolated = with_block m.sizes b.0 m.isolated } → held2 ≡ map (filter (λ f. not (is_frame_of r.sizes b.0 f))) held → r2 ≡ with_withdrawn b.0 (with_frames (λ f. list_any (is_in f) held && is_frame_of r.sizes b.0 f) r) → AreOf (behind (Isolate b) k) r2 m2 held2 bits
+isolate_kept k r m held bits b r2 m2 held2 h l alone em eh er =
     let drained : with_frames (λ f. list_any (is_in f) held && is_frame_of r.sizes b.0 f) r ≡ runs_of k.sizes k.online (drained_state k.sizes b.0 k.state) =
     (λ i. with_frames (λ f. list_any (is_in f) (h.caches i) && is_frame_of (h.runs i).sizes b.0 f) (h.runs i)) ∙ runs_drained k.sizes k.online k.state b.0 h.space in
     record {
       within = h.within;
-      space = space_isolated k.sizes k.state b.0 h.space l;
+      space = space_isolated k.sizes k.online k.state b.0 h.space l alone;
       runs = er ∙ ap (with_withdrawn b.0) drained ∙ runs_isolated k.sizes k.online k.state b.0 h.space l;
       marks = em ∙ (λ i. record (h.marks i) { isolated = with_block (h.marks i).sizes b.0 (h.marks i).isolated });
       caches = eh ∙ (λ i. map (filter (λ f. not (is_frame_of (h.runs i).sizes b.0 f))) (h.caches i));
@@ -97,7 +97,7 @@ isolate_kept k r m held bits b r2 m2 held2 h l em eh er =
 pub undo_kept : (k : KeptSpace) (r : FreeFrames) (m : Marks) (held : List (List ℕ)) (bits : List Bool) (b : BlockNo) (r2 : FreeFrames) (m2 : Marks) → AreOf k r m held bits → is_in b.0 k.state.isolated ≡ true → is_in b.0 k.state.offline ≡ false → m2 ≡ record m { isolated = without_block b.0 m.isolated } → r2 ≡ with_restored b.0 r → AreOf (behind (Undo b) k) r2 m2 held bits
 undo_kept k r m held bits b r2 m2 h there off em er = record {
   within = h.within;
-  space = space_undone k.sizes k.state b.0 h.space off;
+  space = space_undone k.sizes k.online k.state b.0 h.space off;
   runs = er ∙ ap (with_restored b.0) h.runs ∙ runs_undone k.sizes k.online k.state b.0 h.space there;
   marks = em ∙ (λ i. record (h.marks i) { isolated = without_block b.0 (h.marks i).isolated });
   caches = h.caches;
@@ -125,7 +125,7 @@ emptied_from s st b none frame h = go (get_or st.out frame None) refl
 pub offline_kept : (k : KeptSpace) (r : FreeFrames) (m : Marks) (held : List (List ℕ)) (bits : List Bool) (b : BlockNo) → AreOf k r m held bits → is_in b.0 k.state.isolated ≡ true → frames_out_of k.sizes k.state b.0 ≡ [] → AreOf (behind (Offline b) k) r m held (set bits b.0 true)
 offline_kept k r m held bits b h there none = record {
   within = h.within;
-  space = space_offline k.sizes k.state b.0 h.space there (emptied_from k.sizes k.state b.0 none);
+  space = space_offline k.sizes k.online k.state b.0 h.space there (emptied_from k.sizes k.state b.0 none);
   runs = h.runs;
   marks = h.marks;
   caches = h.caches;
@@ -137,7 +137,7 @@ offline_kept k r m held bits b h there none = record {
 pub online_kept : (k : KeptSpace) (r : FreeFrames) (m : Marks) (held : List (List ℕ)) (bits : List Bool) (b : BlockNo) (r2 : FreeFrames) (m2 : Marks) → AreOf k r m held bits → is_in b.0 k.state.offline ≡ true → m2 ≡ record m { isolated = without_block b.0 m.isolated } → r2 ≡ with_restored b.0 r → AreOf (behind (Online b) k) r2 m2 held (set bits b.0 false)
 online_kept k r m held bits b r2 m2 h there em er = record {
   within = h.within;
-  space = space_online k.sizes k.state b.0 h.space;
+  space = space_online k.sizes k.online k.state b.0 h.space;
   runs = er ∙ ap (with_restored b.0) h.runs ∙ runs_online k.sizes k.online k.state b.0 h.space there;
   marks = em ∙ (λ i. record (h.marks i) { isolated = without_block b.0 (h.marks i).isolated });
   caches = h.caches;
@@ -156,7 +156,7 @@ given_back isolated who frame k = record k {
 
 pub givable_out : (k : KeptSpace) (r : FreeFrames) (m : Marks) (held : List (List ℕ)) (bits : List Bool) (frame : ℕ) → AreOf k r m held bits → out_for k.state frame ≢ None → IsGivable r frame
 givable_out k r m held bits frame h ne =
-    let l : frame < frame_count k.sizes = out_in_count k.sizes k.state frame h.space ne in
+    let l : frame < frame_count k.sizes = out_in_count k.sizes k.online k.state frame h.space ne in
     let P : FreeFrames → Type 0 = λ x. IsGivable x frame in
     subst P (sym h.runs) (l, neither_out k.sizes k.online k.state frame l (is_out-from k.state frame ne))
 
@@ -169,7 +169,7 @@ give_back_isolated k r m held bits who frame r2 m2 h ne iso em er =
     let P : Bool → Type 0 = λ t. AreOf (given_back t who frame.0 k) r2 m2 held bits in
     subst P (sym iso) (record {
       within = h.within;
-      space = space_cleared k.sizes k.state frame.0 h.space;
+      space = space_cleared k.sizes k.online k.state frame.0 h.space;
       runs = er ∙ ap (with_frames (λ f. eqb f frame.0)) h.runs ∙ runs_cleared k.sizes k.online k.state frame.0 h.space ne iso;
       marks = em ∙ (λ i. record (h.marks i) { out = set (h.marks i).out frame.0 None });
       caches = h.caches;
@@ -182,7 +182,7 @@ give_back_cached k r m held bits who frame m2 held2 h w ne iso em eh r2 er =
     let P : Bool → Type 0 = λ t. AreOf (given_back t who frame.0 k) r2 m2 held2 bits in
     subst P (sym iso) (record {
       within = h.within;
-      space = space_returned k.sizes k.state who frame.0 h.space w ne iso;
+      space = space_returned k.sizes k.online k.state who frame.0 h.space w ne iso;
       runs = er;
       marks = em ∙ (λ i. record (h.marks i) { out = set (h.marks i).out frame.0 None });
       caches = eh ∙ (λ i. put_back (h.caches i) who frame.0);

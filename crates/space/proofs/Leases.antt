@@ -14,7 +14,7 @@ use Rattle.evac_model.specs.declared.names.Kind.TheVariants.{Movable, Unmovable}
 use Rattle.evac_model.specs.Geometry.{Sizes, IsWithinLimits, frame_count}
 use Rattle.evac_model.specs.Numbers.{is_in}
 use Rattle.evac_model.specs.FreeRuns.{fits, is_all_free, chosen_run}
-use Rattle.evac_model.specs.SpaceJournal.{SpaceState, Leased, out_for, is_frame_of, is_frame_in, free_frames, from_cache, from_run, from_runs, one_frame, kernel_run, drained, lease_of, after_lease}
+use Rattle.evac_model.specs.SpaceJournal.{SpaceState, Out, Leased, IsLeasable, out_for, is_frame_of, is_frame_in, free_frames, from_cache, from_run, from_runs, one_frame, kernel_run, drained, lease_of, after_lease}
 use Rattle.buddy.proofs.FreeRunLaws.{no_choice}
 use Rattle.frame_cache.specs.Drains.{AreCaches, AreDistinct}
 use Rattle.space.specs.JournaledSpace.{JournaledSpace, state_of, IsLeasableFor}
@@ -23,15 +23,8 @@ use Rattle.space.proofs.Members.{any-filter, get_or-filter_each, any-set_in, any
 use Rattle.space.proofs.Spaces.{IsFreeFrame, free_frame, free_frame_in, one_free, drained_space}
 use Rattle.space.proofs.Choices.{IsChosenRun, chosen, few_frames}
 
--- a frame that a lease for a page of that kind may have
-pub record IsLeasable (s : Sizes) (online : Kind) (st : SpaceState) (kind : Kind) (frame : ℕ) : Type 0 where
-  pub there : frame < frame_count s
-  pub fitting : fits s online kind frame ≡ true
-  pub not_out : out_for st frame ≡ None
-  pub not_isolated : is_frame_in s st.isolated frame ≡ false
-
 pub record IsGoodLease (s : Sizes) (online : Kind) (st : SpaceState) (kind : Kind) (l : Leased) : Type 0 where
-  pub kept : (page : ℕ) → IsSpace s (after_lease st (Some l) page kind)
+  pub kept : (page : ℕ) → IsSpace s online (after_lease st (Some l) page kind)
   pub leasable : IsLeasable s online st kind l.frame
 
 -- ---- caches with a list in another's place
@@ -77,31 +70,55 @@ record StaysCached (s : Sizes) (st : SpaceState) (leased frame : ℕ) : Type 0 w
   pub not_isolated : is_frame_in s st.isolated frame ≡ false
   pub other : frame ≢ leased
 
-lease_kept : (s : Sizes) (st : SpaceState) (l : Leased) (page : ℕ) (kind : Kind) → IsSpace s st → is_frame_in s st.isolated l.frame ≡ false → AreCaches l.caches → AreDistinct (concat l.caches) → ((f : ℕ) → list_any (is_in f) l.caches ≡ true → StaysCached s st l.frame f) → IsSpace s (after_lease st (Some l) page kind)
-lease_kept s st l page kind h not_isolated caches distinct cached = record {
-  out = length-set st.out l.frame _ ∙ h.out;
-  isolated = h.isolated;
-  offline = h.offline;
-  offline_isolated = h.offline_isolated;
-  emptied = λ f t.
-      let isolated : is_frame_in s st.isolated f ≡ true = any_more (λ b. is_frame_of s b f) st.offline st.isolated h.offline_isolated t in
-      get_or-set_other st.out l.frame f _ None (λ e. both_ways _ not_isolated (ap (is_frame_in s st.isolated) (sym e) ∙ isolated)) ∙ h.emptied f t;
-  caches = caches;
-  distinct = distinct;
-  cached_there = λ f t. (cached f t).there;
-  cached_not_out = λ f t. get_or-set_other st.out l.frame f _ None (cached f t).other ∙ (cached f t).not_out;
-  cached_not_isolated = λ f t. (cached f t).not_isolated;
-}
+-- what a leased frame is out for
+leased_out : (out : List (Option Out)) (first f : ℕ) (o x : Out) → first < length out → f ≡ first → get_or (set out first (Some o)) f None ≡ Some x → o ≡ x
+leased_out out first f o x l here e =
+    same_Some o x (sym (ap (λ (i : ℕ). get_or (set out first (Some o)) i None) here ∙ get_or-set_same out first (Some o) None l) ∙ e)
+
+lease_kept : (s : Sizes) (online : Kind) (st : SpaceState) (l : Leased) (page : ℕ) (kind : Kind) → IsSpace s online st → IsLeasable s online st kind l.frame → AreCaches l.caches → AreDistinct (concat l.caches) → ((f : ℕ) → list_any (is_in f) l.caches ≡ true → StaysCached s st l.frame f) → IsSpace s online (after_lease st (Some l) page kind)
+lease_kept s online st l page kind h leasable caches distinct cached =
+    let o : Out = record { page = page; kind = kind } in
+    let other_as : (f : ℕ) → f ≢ l.frame → get_or (set st.out l.frame (Some o)) f None ≡ out_for st f = λ f ne. get_or-set_other st.out l.frame f (Some o) None ne in
+    record {
+      out = length-set st.out l.frame _ ∙ h.out;
+      isolated = h.isolated;
+      offline = h.offline;
+      offline_isolated = h.offline_isolated;
+      emptied = λ f t.
+          let isolated : is_frame_in s st.isolated f ≡ true = any_more (λ b. is_frame_of s b f) st.offline st.isolated h.offline_isolated t in
+          other_as f (λ e. both_ways _ leasable.not_isolated (ap (is_frame_in s st.isolated) (sym e) ∙ isolated)) ∙ h.emptied f t;
+      fitting = λ f x e. elim (cases_eq f l.frame) [
+        | inl here ↦
+            let same : o ≡ x = leased_out st.out l.frame f o x (omega (arith, h.out, leasable.there)) here e in
+            ap (λ (y : Out). fits s online y.kind f) (sym same) ∙ ap (fits s online kind) here ∙ leasable.fitting
+        | inr other ↦ h.fitting f x (sym (other_as f other) ∙ e)
+      ];
+      isolated_movable = λ f x t e. elim (cases_eq f l.frame) [
+        | inl here ↦ absurd (both_ways _ leasable.not_isolated (ap (is_frame_in s st.isolated) (sym here) ∙ t))
+        | inr other ↦ h.isolated_movable f x t (sym (other_as f other) ∙ e)
+      ];
+      caches = caches;
+      distinct = distinct;
+      cached_there = λ f t. (cached f t).there;
+      cached_not_out = λ f t. other_as f (cached f t).other ∙ (cached f t).not_out;
+      cached_not_isolated = λ f t. (cached f t).not_isolated;
+    }
 
 -- from the caller's cache
-good_cached : (s : Sizes) (online : Kind) (st : SpaceState) (who first : ℕ) (rest : List ℕ) → IsSpace s st → get_or st.caches who [] ≡ first ∷ rest → IsGoodLease s online st Movable (record { frame = first; caches = set st.caches who rest })
+good_cached : (s : Sizes) (online : Kind) (st : SpaceState) (who first : ℕ) (rest : List ℕ) → IsSpace s online st → get_or st.caches who [] ≡ first ∷ rest → IsGoodLease s online st Movable (record { frame = first; caches = set st.caches who rest })
 good_cached s online st who first rest h held =
     let there : list_any (is_in first) st.caches ≡ true = any-get_or first st.caches who (ap (is_in first) held ∙ or_left _ _ (eq-eqb first first refl)) in
     let few : length rest ≤ 8 = omega (arith, ap (λ (xs : List ℕ). length xs) held, h.caches.few who) in
     let whole : AreDistinct (first ∷ rest) = subst AreDistinct held (distinct-get_or st.caches who h.distinct) in
     let was : (f : ℕ) → list_any (is_in f) (set st.caches who rest) ≡ true → list_any (is_in f) st.caches ≡ true = λ f t. any-set_rest f st.caches who first rest held ∙ or_right _ _ t in
+    let leasable : IsLeasable s online st Movable first = record {
+      there = h.cached_there first there;
+      fitting = refl;
+      not_out = h.cached_not_out first there;
+      not_isolated = h.cached_not_isolated first there;
+    } in
     record {
-      kept = λ page. lease_kept s st (record { frame = first; caches = set st.caches who rest }) page Movable h (h.cached_not_isolated first there) (set_caches st.caches who rest h.caches few)
+      kept = λ page. lease_kept s online st (record { frame = first; caches = set st.caches who rest }) page Movable h leasable (set_caches st.caches who rest h.caches few)
           (distinct-set st.caches who rest h.distinct whole.1 (λ f t. inl (ap (is_in f) held ∙ or_right _ _ t)))
           (λ f t. record {
             there = h.cached_there f (was f t);
@@ -109,12 +126,7 @@ good_cached s online st who first rest h held =
             not_isolated = h.cached_not_isolated f (was f t);
             other = λ e. both_ways _ (any-rest_none st.caches who first rest h.distinct held) (ap (λ (k : ℕ). list_any (is_in k) (set st.caches who rest)) (sym e) ∙ t);
           });
-      leasable = record {
-        there = h.cached_there first there;
-        fitting = refl;
-        not_out = h.cached_not_out first there;
-        not_isolated = h.cached_not_isolated first there;
-      };
+      leasable = leasable;
     }
 
 -- a leased run's frames are free
@@ -127,7 +139,7 @@ leasable_first s online kind st order first run =
     record { there = free.below; fitting = run.fitting; not_out = free.not_out; not_isolated = free.not_isolated }
 
 -- from a run, whose other frames go into the caller's empty cache
-good_run : (s : Sizes) (online : Kind) (st : SpaceState) (who order first : ℕ) → IsSpace s st → get_or st.caches who [] ≡ [] → order ≤ 2 → IsChosenRun s online Movable (free_frames s st) order first → IsGoodLease s online st Movable (record { frame = first; caches = set st.caches who (range_with_len (first + 1) (2 ^ order - 1)) })
+good_run : (s : Sizes) (online : Kind) (st : SpaceState) (who order first : ℕ) → IsSpace s online st → get_or st.caches who [] ≡ [] → order ≤ 2 → IsChosenRun s online Movable (free_frames s st) order first → IsGoodLease s online st Movable (record { frame = first; caches = set st.caches who (range_with_len (first + 1) (2 ^ order - 1)) })
 good_run s online st who order first h empty small run =
     let others : List ℕ = range_with_len (first + 1) (2 ^ order - 1) in
     let some : 0 < 2 ^ order = pow_pos order in
@@ -141,8 +153,9 @@ good_run s online st who order first h empty small run =
     let w = within f t in
     free_of_run s online Movable st order first run f (omega (arith, w)) w.1 in
     let first_free : IsFreeFrame s st first = free_of_run s online Movable st order first run first (omega arith) (omega (arith, some)) in
+    let leasable : IsLeasable s online st Movable first = leasable_first s online Movable st order first run in
     record {
-      kept = λ page. lease_kept s st (record { frame = first; caches = set st.caches who others }) page Movable h first_free.not_isolated (set_caches st.caches who others h.caches few)
+      kept = λ page. lease_kept s online st (record { frame = first; caches = set st.caches who others }) page Movable h leasable (set_caches st.caches who others h.caches few)
           (distinct-set st.caches who others h.distinct (distinct-range_with_len (first + 1) (2 ^ order - 1)) (λ f t. inr (free f t).not_cached))
           (λ f t. elim (any-set_in f st.caches who others t) [
             | inl new ↦ record {
@@ -158,21 +171,22 @@ good_run s online st who order first h empty small run =
               other = λ e. both_ways _ first_free.not_cached (ap (λ (k : ℕ). list_any (is_in k) st.caches) (sym e) ∙ old);
             }
           ]);
-      leasable = leasable_first s online Movable st order first run;
+      leasable = leasable;
     }
 
 -- a run of one frame
-good_frame : (s : Sizes) (online : Kind) (st : SpaceState) (first : ℕ) → IsSpace s st → IsChosenRun s online Unmovable (free_frames s st) 0 first → IsGoodLease s online st Unmovable (record { frame = first; caches = st.caches })
+good_frame : (s : Sizes) (online : Kind) (st : SpaceState) (first : ℕ) → IsSpace s online st → IsChosenRun s online Unmovable (free_frames s st) 0 first → IsGoodLease s online st Unmovable (record { frame = first; caches = st.caches })
 good_frame s online st first h run =
     let free : IsFreeFrame s st first = free_of_run s online Unmovable st 0 first run first (omega arith) (omega arith) in
+    let leasable : IsLeasable s online st Unmovable first = leasable_first s online Unmovable st 0 first run in
     record {
-      kept = λ page. lease_kept s st (record { frame = first; caches = st.caches }) page Unmovable h free.not_isolated h.caches h.distinct (λ f t. record {
+      kept = λ page. lease_kept s online st (record { frame = first; caches = st.caches }) page Unmovable h leasable h.caches h.distinct (λ f t. record {
         there = h.cached_there f t;
         not_out = h.cached_not_out f t;
         not_isolated = h.cached_not_isolated f t;
         other = λ e. both_ways _ free.not_cached (ap (λ (k : ℕ). list_any (is_in k) st.caches) (sym e) ∙ t);
       });
-      leasable = leasable_first s online Unmovable st 0 first run;
+      leasable = leasable;
     }
 
 -- ---- the cases of a lease
@@ -185,17 +199,17 @@ or_none : (a b : Option Leased) → option_or a b ≡ None → (a ≡ None) × (
 or_none None b e = (refl, e)
 or_none (Some x) b e = cc
 
-cache_good : (s : Sizes) (online : Kind) (st : SpaceState) (who : ℕ) (l : Leased) (held : List ℕ) → IsSpace s st → get_or st.caches who [] ≡ held → from_cache st.caches who held ≡ Some l → IsGoodLease s online st Movable l
+cache_good : (s : Sizes) (online : Kind) (st : SpaceState) (who : ℕ) (l : Leased) (held : List ℕ) → IsSpace s online st → get_or st.caches who [] ≡ held → from_cache st.caches who held ≡ Some l → IsGoodLease s online st Movable l
 cache_good s online st who l [] h e some = cc
 cache_good s online st who l (first ∷ rest) h e some =
     subst (IsGoodLease s online st Movable) (same_Some _ l some) (good_cached s online st who first rest h e)
 
-run_good : (s : Sizes) (online : Kind) (st : SpaceState) (who order : ℕ) (l : Leased) (o : Option ℕ) → IsWithinLimits s → IsSpace s st → get_or st.caches who [] ≡ [] → order ≤ 2 → chosen_run s online (free_frames s st) order Movable ≡ o → from_run st.caches who order o ≡ Some l → IsGoodLease s online st Movable l
+run_good : (s : Sizes) (online : Kind) (st : SpaceState) (who order : ℕ) (l : Leased) (o : Option ℕ) → IsWithinLimits s → IsSpace s online st → get_or st.caches who [] ≡ [] → order ≤ 2 → chosen_run s online (free_frames s st) order Movable ≡ o → from_run st.caches who order o ≡ Some l → IsGoodLease s online st Movable l
 run_good s online st who order l None w h empty small e some = cc
 run_good s online st who order l (Some first) w h empty small e some =
     subst (IsGoodLease s online st Movable) (same_Some _ l some) (good_run s online st who order first h empty small (chosen s online Movable (free_frames s st) order first w e))
 
-runs_good : (s : Sizes) (online : Kind) (st : SpaceState) (who : ℕ) (l : Leased) → IsWithinLimits s → IsSpace s st → get_or st.caches who [] ≡ [] → from_runs s online st who ≡ Some l → IsGoodLease s online st Movable l
+runs_good : (s : Sizes) (online : Kind) (st : SpaceState) (who : ℕ) (l : Leased) → IsWithinLimits s → IsSpace s online st → get_or st.caches who [] ≡ [] → from_runs s online st who ≡ Some l → IsGoodLease s online st Movable l
 runs_good s online st who l w h empty some =
     let lease : ℕ → Option Leased = λ order. from_run st.caches who order (chosen_run s online (free_frames s st) order Movable) in
     let good : (order : ℕ) → order ≤ 2 → lease order ≡ Some l → IsGoodLease s online st Movable l = λ order small. run_good s online st who order l _ w h empty small refl in
@@ -207,7 +221,7 @@ runs_good s online st who l w h empty some =
       ]
     ]
 
-kernel_good : (s : Sizes) (online : Kind) (st : SpaceState) (l : Leased) (o : Option ℕ) → IsWithinLimits s → IsSpace s st → chosen_run s online (free_frames s st) 0 Unmovable ≡ o → one_frame st.caches o ≡ Some l → IsGoodLease s online st Unmovable l
+kernel_good : (s : Sizes) (online : Kind) (st : SpaceState) (l : Leased) (o : Option ℕ) → IsWithinLimits s → IsSpace s online st → chosen_run s online (free_frames s st) 0 Unmovable ≡ o → one_frame st.caches o ≡ Some l → IsGoodLease s online st Unmovable l
 kernel_good s online st l None w h e some = cc
 kernel_good s online st l (Some first) w h e some =
     subst (IsGoodLease s online st Unmovable) (same_Some _ l some) (good_frame s online st first h (chosen s online Unmovable (free_frames s st) 0 first w e))
@@ -218,7 +232,7 @@ drained_good s online kind drains st l h = record {
   leasable = record { there = h.leasable.there; fitting = h.leasable.fitting; not_out = h.leasable.not_out; not_isolated = h.leasable.not_isolated };
 }
 
-movable_good : (s : Sizes) (online : Kind) (st : SpaceState) (who : ℕ) (l : Leased) (held : List ℕ) → IsWithinLimits s → IsSpace s st → get_or st.caches who [] ≡ held → option_or (from_cache st.caches who held) (option_or (from_runs s online st who) (from_runs s online (drained s online Movable st) who)) ≡ Some l → IsGoodLease s online st Movable l
+movable_good : (s : Sizes) (online : Kind) (st : SpaceState) (who : ℕ) (l : Leased) (held : List ℕ) → IsWithinLimits s → IsSpace s online st → get_or st.caches who [] ≡ held → option_or (from_cache st.caches who held) (option_or (from_runs s online st who) (from_runs s online (drained s online Movable st) who)) ≡ Some l → IsGoodLease s online st Movable l
 movable_good s online st who l [] w h e some =
     let emptied : get_or (drained s online Movable st).caches who [] ≡ [] = get_or-filter_each (λ f. not (fits s online Movable f)) st.caches who ∙ ap (filter (λ f. not (fits s online Movable f))) e in
     elim (or_some (from_runs s online st who) (from_runs s online (drained s online Movable st) who) l some) [
@@ -228,7 +242,7 @@ movable_good s online st who l [] w h e some =
     ]
 movable_good s online st who l (first ∷ rest) w h e some = cache_good s online st who l (first ∷ rest) h e some
 
-pub lease_good : (s : Sizes) (online : Kind) (st : SpaceState) (who : ℕ) (kind : Kind) (l : Leased) → IsWithinLimits s → IsSpace s st → lease_of s online st who kind ≡ Some l → IsGoodLease s online st kind l
+pub lease_good : (s : Sizes) (online : Kind) (st : SpaceState) (who : ℕ) (kind : Kind) (l : Leased) → IsWithinLimits s → IsSpace s online st → lease_of s online st who kind ≡ Some l → IsGoodLease s online st kind l
 lease_good s online st who Movable l w h some = movable_good s online st who l (get_or st.caches who []) w h refl some
 lease_good s online st who Unmovable l w h some =
     elim (or_some (kernel_run s online st) (kernel_run s online (drained s online Unmovable st)) l some) [
@@ -280,23 +294,15 @@ no_value : (o : Option Leased) → ((l : Leased) → o ≡ Some l → ⊥) → o
 no_value None h = refl
 no_value (Some l) h = absurd (h l refl)
 
-pub lease_none : (s : Sizes) (online : Kind) (st : SpaceState) (who : ℕ) (kind : Kind) → IsWithinLimits s → IsSpace s st → (lease_of s online st who kind ≡ None) ↔ ((f : ℕ) → ¬ IsLeasable s online st kind f)
+pub lease_none : (s : Sizes) (online : Kind) (st : SpaceState) (who : ℕ) (kind : Kind) → IsWithinLimits s → IsSpace s online st → (lease_of s online st who kind ≡ None) ↔ ((f : ℕ) → ¬ IsLeasable s online st kind f)
 lease_none s online st who kind w h = (
   lease_refused s online st who kind w,
   λ none. no_value (lease_of s online st who kind) (λ l e. none l.frame (lease_good s online st who kind l w h e).leasable),
 )
 
 -- the same of a journaled space
-pub free_for : (v : JournaledSpace) (kind : Kind) (f : ℕ) → IsLeasable v.sizes v.online (state_of v) kind f ↔ IsLeasableFor v kind f
-free_for v kind f = (
-  λ h. record { there = h.there; fitting = h.fitting; not_out = h.not_out; not_isolated = h.not_isolated },
-  λ h. record { there = h.there; fitting = h.fitting; not_out = h.not_out; not_isolated = h.not_isolated },
-)
+pub leased_free : (v : JournaledSpace) (who : ℕ) (kind : Kind) (l : Leased) → IsWithinLimits v.sizes → IsSpace v.sizes v.online (state_of v) → lease_of v.sizes v.online (state_of v) who kind ≡ Some l → IsLeasableFor v kind l.frame
+leased_free v who kind l w h e = (lease_good v.sizes v.online (state_of v) who kind l w h e).leasable
 
-pub leased_free : (v : JournaledSpace) (who : ℕ) (kind : Kind) (l : Leased) → IsWithinLimits v.sizes → IsSpace v.sizes (state_of v) → lease_of v.sizes v.online (state_of v) who kind ≡ Some l → IsLeasableFor v kind l.frame
-leased_free v who kind l w h e = (free_for v kind l.frame).0 (lease_good v.sizes v.online (state_of v) who kind l w h e).leasable
-
-pub refused_none : (v : JournaledSpace) (who : ℕ) (kind : Kind) → IsWithinLimits v.sizes → IsSpace v.sizes (state_of v) → (lease_of v.sizes v.online (state_of v) who kind ≡ None) ↔ ((f : ℕ) → ¬ IsLeasableFor v kind f)
-refused_none v who kind w h =
-    let law = lease_none v.sizes v.online (state_of v) who kind w h in
-    (λ none f free. law.0 none f ((free_for v kind f).1 free), λ none. law.1 (λ f free. none f ((free_for v kind f).0 free)))
+pub refused_none : (v : JournaledSpace) (who : ℕ) (kind : Kind) → IsWithinLimits v.sizes → IsSpace v.sizes v.online (state_of v) → (lease_of v.sizes v.online (state_of v) who kind ≡ None) ↔ ((f : ℕ) → ¬ IsLeasableFor v kind f)
+refused_none v who kind w h = lease_none v.sizes v.online (state_of v) who kind w h

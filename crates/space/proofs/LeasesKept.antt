@@ -98,7 +98,7 @@ refusal_kept k r m held bits who kind r2 held2 h e same =
     }
 
 -- one more return may follow
-pub lease_owed : (k : KeptSpace) (owed who : ℕ) (frame : FrameNo) (page : PageNo) (kind : Kind) (next : KeptSpace) → IsWithinLimits k.sizes → IsSpace k.sizes k.state → IsOwed k.state owed → Chooses (lease_of k.sizes k.online k.state who kind) frame.0 → next ≡ behind (Lease who frame page kind) k → IsOwed next.state (owed + 1)
+pub lease_owed : (k : KeptSpace) (owed who : ℕ) (frame : FrameNo) (page : PageNo) (kind : Kind) (next : KeptSpace) → IsWithinLimits k.sizes → IsSpace k.sizes k.online k.state → IsOwed k.state owed → Chooses (lease_of k.sizes k.online k.state who kind) frame.0 → next ≡ behind (Lease who frame page kind) k → IsOwed next.state (owed + 1)
 lease_owed k owed who frame page kind next within space h chosen e =
     let w : IsLeaseOf (lease_of k.sizes k.online k.state who kind) frame.0 = lease_chosen (lease_of k.sizes k.online k.state who kind) frame.0 chosen in
     let l : Leased = w.leased in
@@ -115,20 +115,20 @@ lease_owed k owed who frame page kind next within space h chosen e =
 within_left : (v : JournaledSpace) (k : KeptSpace) (used owed room : ℕ) → IsLeftBy v k used owed room → IsWithinLimits k.sizes → IsWithinLimits v.sizes
 within_left v k used owed room h w = let P : KeptSpace → Type 0 = λ x. IsWithinLimits x.sizes in subst P h.left w
 
-space_left : (v : JournaledSpace) (k : KeptSpace) (used owed room : ℕ) → IsLeftBy v k used owed room → IsSpace k.sizes k.state → IsSpace v.sizes (state_of v)
-space_left v k used owed room h w = let P : KeptSpace → Type 0 = λ x. IsSpace x.sizes x.state in subst P h.left w
+space_left : (v : JournaledSpace) (k : KeptSpace) (used owed room : ℕ) → IsLeftBy v k used owed room → IsSpace k.sizes k.online k.state → IsSpace v.sizes v.online (state_of v)
+space_left v k used owed room h w = let P : KeptSpace → Type 0 = λ x. IsSpace x.sizes x.online x.state in subst P h.left w
 
 pub chosen_left : (v : JournaledSpace) (k : KeptSpace) (used owed room who : ℕ) (kind : Kind) (frame : ℕ) → IsLeftBy v k used owed room → Chooses (lease_of k.sizes k.online k.state who kind) frame → Chooses (lease_of v.sizes v.online (state_of v) who kind) frame
 chosen_left v k used owed room who kind frame h chosen =
     let P : KeptSpace → Type 0 = λ x. Chooses (lease_of x.sizes x.online x.state who kind) frame in subst P h.left chosen
 
-pub free_left : (v : JournaledSpace) (k : KeptSpace) (used owed room who : ℕ) (kind : Kind) (frame : ℕ) → IsLeftBy v k used owed room → IsWithinLimits k.sizes → IsSpace k.sizes k.state → Chooses (lease_of k.sizes k.online k.state who kind) frame → IsLeasableFor v kind frame
+pub free_left : (v : JournaledSpace) (k : KeptSpace) (used owed room who : ℕ) (kind : Kind) (frame : ℕ) → IsLeftBy v k used owed room → IsWithinLimits k.sizes → IsSpace k.sizes k.online k.state → Chooses (lease_of k.sizes k.online k.state who kind) frame → IsLeasableFor v kind frame
 free_left v k used owed room who kind frame h within space chosen =
     let w : IsLeaseOf (lease_of v.sizes v.online (state_of v) who kind) frame =
     lease_chosen (lease_of v.sizes v.online (state_of v) who kind) frame (chosen_left v k used owed room who kind frame h chosen) in
     subst (IsLeasableFor v kind) w.gave (leased_free v who kind w.leased (within_left v k used owed room h within) (space_left v k used owed room h space) w.is)
 
-pub none_left : (v : JournaledSpace) (k : KeptSpace) (used owed room who : ℕ) (kind : Kind) → IsLeftBy v k used owed room → IsWithinLimits k.sizes → IsSpace k.sizes k.state → lease_of k.sizes k.online k.state who kind ≡ None → (frame : ℕ) → ¬ IsLeasableFor v kind frame
+pub none_left : (v : JournaledSpace) (k : KeptSpace) (used owed room who : ℕ) (kind : Kind) → IsLeftBy v k used owed room → IsWithinLimits k.sizes → IsSpace k.sizes k.online k.state → lease_of k.sizes k.online k.state who kind ≡ None → (frame : ℕ) → ¬ IsLeasableFor v kind frame
 none_left v k used owed room who kind h within space none =
     (refused_none v who kind (within_left v k used owed room h within) (space_left v k used owed room h space)).0
     (ap (λ (x : KeptSpace). lease_of x.sizes x.online x.state who kind) (sym h.left) ∙ none)

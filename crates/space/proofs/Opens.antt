@@ -6,11 +6,13 @@ use Rattle.std.proofs.Math.Dec.{eqb, ltb, leb}
 use Rattle.std.proofs.Math.ListN.{set}
 use Rattle.std.proofs.lemmas.Bool.{cases_eq, cases_lt, eq-eqb, ne_eqb, false≢true, lt-ltb, le-ltb, and_left, and_right, cond-true, cond-false}
 use Rattle.std.proofs.lemmas.Bool.Decides.{nat_tests}
+use Rattle.std.proofs.lemmas.Option.{same_Some}
 use Rattle.std.proofs.lemmas.List.{same_lists, length-set, length-replicate, get_or-set_same, get_or-set_other, get_or-replicate, get_or_past, drop_more}
 use Rattle.std.proofs.lemmas.List.FromFn.{length-range_with_len, length-map-range_with_len, get_or-map-range_with_len}
 use Rattle.evac_model.specs.declared.names.Kind.{Kind}
 use Rattle.evac_model.specs.declared.scenario.StartPage.{StartPage}
 use Rattle.evac_model.specs.Geometry.{Sizes, IsThereAtStart, frame_count, first_frame, IsWithinLimits}
+use Rattle.evac_model.specs.FreeRuns.{fits}
 use Rattle.evac_model.specs.Numbers.{numbers_where, is_in, is_between, IsRisingBelow}
 use Rattle.evac_model.specs.SpaceJournal.{SpaceState, Out, out_for, is_frame_of, is_frame_in, with_block, out_at_start, space_at_start}
 use Rattle.evac_model.proofs.Numbers.{numbers_agree, is_in-numbers_where, numbers_where-none}
@@ -23,6 +25,7 @@ use Rattle.page_blocks.specs.Marks.{Marks, frames_out, block_frames_out, isolati
 use Rattle.evac_model.specs.declared.space.Unmovable.{Unmovable}
 use Rattle.evac_model.specs.declared.names.PageNo.{PageNo}
 use Rattle.std.specs.Result.{OnOk}
+use Rattle.space.specs.JournaledSpace.{AreStartFrames}
 use Rattle.space.specs.KeptSpace.{KeptSpace, AreOf}
 use Rattle.space.specs.Opening.{unplugged, marks_at_open, marks_isolated, marks_at_start, runs_at_open}
 use Rattle.space.specs.SpaceInside.{IsSpace, IsOwed, runs_of}
@@ -330,16 +333,39 @@ no_cache who = elim (cases_lt who 17) [
 unplugged_rising : (s : Sizes) → s.plugged ≤ s.managed → IsRisingBelow s.managed (unplugged s)
 unplugged_rising s few = subst (IsRisingBelow s.managed) (numbers_between s.plugged s.managed few) (numbers_rising (is_between s.plugged s.managed) s.managed)
 
-pub space_at_start_is_space : (s : Sizes) (start : List StartPage) → s.plugged ≤ s.managed → AllByRecursion (λ q. IsThereAtStart s q.frame.0) start → IsSpace s (space_at_start s start)
-space_at_start_is_space s start few h = record {
+emptied_at_start : (s : Sizes) (online : Kind) (start : List StartPage) (f : ℕ) → AreStartFrames s online start → is_frame_in s (unplugged s) f ≡ true → out_for (space_at_start s start) f ≡ None
+emptied_at_start s online start f h there =
+    let w : (b : ℕ) × (is_in b (unplugged s) ≡ true) × (is_frame_of s b f ≡ true) = frame_in_witness s (unplugged s) f there in
+    let from : (s.boot + s.plugged) * s.block ≤ first_frame s w.0 = product_le (s.boot + s.plugged) (s.boot + w.0) s.block (omega (arith, in_unplugged s.plugged (s.managed - s.plugged) w.0 w.1)) in
+    out_past s start f h.there (omega (arith, from, frame_from s w.0 f w.2))
+
+-- a page's frame takes it
+page_fits : (s : Sizes) (online : Kind) (start : List StartPage) (f : ℕ) (x : Out) → AllByRecursion (λ p. fits s online p.kind p.frame.0 ≡ true) start → out_at_start start f ≡ Some x → fits s online x.kind f ≡ true
+page_fits s online [] f x h e = absurd (cc e)
+page_fits s online (p ∷ start) f x h e = elim (cases_eq p.frame.0 f) [
+  | inl here ↦
+      let same : Some (let o : Out = record { page = p.page.0; kind = p.kind } in o) ≡ Some x = sym (cond-true (eqb p.frame.0 f) _ _ (eq-eqb p.frame.0 f here)) ∙ e in
+      ap (λ (o : Out). fits s online o.kind f) (sym (same_Some _ x same)) ∙ ap (fits s online p.kind) (sym here) ∙ h.0
+  | inr other ↦ page_fits s online start f x h.1 (sym (cond-false (eqb p.frame.0 f) _ _ (ne_eqb p.frame.0 f other)) ∙ e)
+]
+
+fits_at_start : (s : Sizes) (online : Kind) (start : List StartPage) (f : ℕ) (x : Out) → AreStartFrames s online start → out_for (space_at_start s start) f ≡ Some x → fits s online x.kind f ≡ true
+fits_at_start s online start f x h e = elim (cases_lt f (frame_count s)) [
+  | inl l ↦ page_fits s online start f x h.fitting (sym (out_at_place s start f l) ∙ e)
+  | inr past ↦
+      let none : None ≡ Some x = sym (get_or_past _ f None (omega (arith, length-map-range_with_len (out_at_start start) 0 (frame_count s), past))) ∙ e in
+      absurd (cc none)
+]
+
+pub space_at_start_is_space : (s : Sizes) (online : Kind) (start : List StartPage) → s.plugged ≤ s.managed → AreStartFrames s online start → IsSpace s online (space_at_start s start)
+space_at_start_is_space s online start few h = record {
   out = length-map-range_with_len (out_at_start start) 0 (frame_count s);
   isolated = unplugged_rising s few;
   offline = unplugged_rising s few;
   offline_isolated = λ b there. there;
-  emptied = λ f there.
-      let w : (b : ℕ) × (is_in b (unplugged s) ≡ true) × (is_frame_of s b f ≡ true) = frame_in_witness s (unplugged s) f there in
-      let from : (s.boot + s.plugged) * s.block ≤ first_frame s w.0 = product_le (s.boot + s.plugged) (s.boot + w.0) s.block (omega (arith, in_unplugged s.plugged (s.managed - s.plugged) w.0 w.1)) in
-      out_past s start f h (omega (arith, from, frame_from s w.0 f w.2));
+  emptied = λ f there. emptied_at_start s online start f h there;
+  fitting = λ f x e. fits_at_start s online start f x h e;
+  isolated_movable = λ f x there e. let none : None ≡ Some x = sym (emptied_at_start s online start f h there) ∙ e in absurd (cc none);
   caches = record {
     callers = length-replicate {A = List ℕ} 17 [];
     few = λ who. subst (λ (xs : List ℕ). length xs ≤ 8) (sym (no_cache who)) (omega arith);
@@ -391,10 +417,10 @@ is_some_page None = refl
 is_some_page (Some o) = refl
 
 -- what a space keeps when it is opened
-pub kept_at_start : (s : Sizes) (online : Kind) (start : List StartPage) (r : FreeFrames) (m : Marks) (held : List (List ℕ)) (bits : List Bool) → IsWithinLimits s → AllByRecursion (λ q. IsThereAtStart s q.frame.0) start → r ≡ runs_of s online (space_at_start s start) → m ≡ marks_at_start s start → held ≡ replicate 17 [] → bits ≡ map (λ b. leb s.plugged b) (range_with_len 0 s.managed) → AreOf (record { sizes = s; online = online; state = space_at_start s start }) r m held bits
-kept_at_start s online start r m held bits within there er em eh eb = record {
+pub kept_at_start : (s : Sizes) (online : Kind) (start : List StartPage) (r : FreeFrames) (m : Marks) (held : List (List ℕ)) (bits : List Bool) → IsWithinLimits s → AreStartFrames s online start → r ≡ runs_of s online (space_at_start s start) → m ≡ marks_at_start s start → held ≡ replicate 17 [] → bits ≡ map (λ b. leb s.plugged b) (range_with_len 0 s.managed) → AreOf (record { sizes = s; online = online; state = space_at_start s start }) r m held bits
+kept_at_start s online start r m held bits within h er em eh eb = record {
   within = within;
-  space = space_at_start_is_space s start within.plugged there;
+  space = space_at_start_is_space s online start within.plugged h;
   runs = er;
   marks = em;
   caches = eh;

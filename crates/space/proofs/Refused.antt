@@ -7,9 +7,10 @@ use Rattle.evac_model.specs.declared.names.Kind.TheVariants.{Movable, Unmovable}
 use Rattle.evac_model.specs.declared.space.Unmovable.{Unmovable as UnmovableFrame}
 use Rattle.evac_model.specs.Geometry.{Sizes, first_frame}
 use Rattle.evac_model.specs.SpaceJournal.{SpaceState, Out, IsEmptied, HasMovableAlone}
-use Rattle.page_blocks.specs.Marks.{with_frame, frames_out, is_unmovable, isolation}
+use Rattle.buddy.specs.FreeFrames.{FreeFrames}
+use Rattle.page_blocks.specs.Marks.{Marks, with_frame, frames_out, block_frames_out, is_unmovable, isolation}
 use Rattle.space.specs.JournaledSpace.{JournaledSpace, state_of}
-use Rattle.space.specs.KeptSpace.{KeptSpace}
+use Rattle.space.specs.KeptSpace.{KeptSpace, AreOf}
 use Rattle.space.specs.KeptJournal.{IsLeftBy}
 use Rattle.space.specs.Refusals.{frames_out_of, emptiness}
 use Rattle.space.proofs.BlockFrames.{frame_from, frame_below, in_block}
@@ -60,34 +61,11 @@ pub movable_alone : (s : Sizes) (st : SpaceState) (b : ℕ) → filter is_unmova
 movable_alone s st b e frame page there is =
     false≢true (sym (movable_at st.out (first_frame s b) s.block frame (record { page = page; kind = Unmovable }) e (frame_from s b frame there) (frame_below s b frame there) is))
 
+pub movable_kept : (k : KeptSpace) (r : FreeFrames) (m : Marks) (held : List (List ℕ)) (bits : List Bool) (b : ℕ) → AreOf k r m held bits → Ok tt ≡ isolation (filter is_unmovable (block_frames_out m b)) → HasMovableAlone k.sizes k.state b
+movable_kept k r m held bits b h e =
+    movable_alone k.sizes k.state b (none_unmovable _ (e ∙ ap (λ (x : Marks). isolation (filter is_unmovable (block_frames_out x b))) h.marks))
+
 pub movable_ok : (v : JournaledSpace) (k : KeptSpace) (used owed room : ℕ) (b : ℕ) → IsLeftBy v k used owed room → Ok tt ≡ isolation (filter is_unmovable (frames_out_of k.sizes k.state b)) → HasMovableAlone v.sizes (state_of v) b
 movable_ok v k used owed room b h e =
     let P : KeptSpace → Type 0 = λ x. HasMovableAlone x.sizes x.state b in
     subst P h.left (movable_alone k.sizes k.state b (none_unmovable (filter is_unmovable (frames_out_of k.sizes k.state b)) e))
-
--- one that is refused hasn't
-skip_movable : (frame : ℕ) (page : ℕ) (kind : Kind) (rest : List (ℕ × Out)) → (kind ≡ Unmovable → ⊥) → filter is_unmovable rest ≡ [] → filter is_unmovable ((frame, (let o : Out = record { page = page; kind = kind } in o)) ∷ rest) ≡ []
-skip_movable frame page Movable rest ne e = e
-skip_movable frame page Unmovable rest ne e = absurd (ne refl)
-
-skip_first : (frame : ℕ) (x : Option Out) (rest : List (ℕ × Out)) → ((page : ℕ) → x ≢ Some (record { page = page; kind = Unmovable })) → filter is_unmovable rest ≡ [] → filter is_unmovable (with_frame frame x rest) ≡ []
-skip_first frame None rest none e = e
-skip_first frame (Some o) rest none e =
-    skip_movable frame o.page o.kind rest (λ k. none o.page (ap (λ (x : Kind). Some (let y : Out = record { page = o.page; kind = x } in y)) k)) e
-
-none_unmovable_at : (out : List (Option Out)) (first n : ℕ) → ((frame page : ℕ) → first ≤ frame → frame < first + n → get_or out frame None ≢ Some (record { page = page; kind = Unmovable })) → filter is_unmovable (frames_out out first n) ≡ []
-none_unmovable_at out first zero h = refl
-none_unmovable_at out first (suc n) h =
-    skip_first first (get_or out first None) (frames_out out (first + 1) n) (λ page. h first page (omega arith) (omega arith))
-    (none_unmovable_at out (first + 1) n (λ frame page from below. h frame page (omega arith) (omega arith)))
-
-refused_some : (frames : List (ℕ × Out)) (u : UnmovableFrame) → frames ≡ [] → Err u ≡ isolation frames → ⊥
-refused_some frames u e r = let x : Err u ≡ Ok tt = r ∙ ap isolation e in cc x
-
-pub not_movable_alone : (v : JournaledSpace) (k : KeptSpace) (used owed room : ℕ) (b : ℕ) (u : UnmovableFrame) → IsLeftBy v k used owed room → Err u ≡ isolation (filter is_unmovable (frames_out_of k.sizes k.state b)) → HasMovableAlone v.sizes (state_of v) b → ⊥
-not_movable_alone v k used owed room b u h e alone =
-    let P : KeptSpace → Type 0 = λ x. HasMovableAlone x.sizes x.state b in
-    let here : HasMovableAlone k.sizes k.state b = subst P (sym h.left) alone in
-    refused_some (filter is_unmovable (frames_out_of k.sizes k.state b)) u
-    (none_unmovable_at k.state.out (first_frame k.sizes b) k.sizes.block (λ frame page from below. here frame page (in_block k.sizes b frame from below)))
-    e

@@ -107,13 +107,13 @@ not_aside_cached : (o i : Bool) → i ≡ false → (not o && i) ≡ false
 not_aside_cached true i h = refl
 not_aside_cached false i h = h
 
-pub neither_cached : (s : Sizes) (online : Kind) (st : SpaceState) (f : ℕ) → IsSpace s st → is_cached st f ≡ true → IsNeither (runs_of s online st) f
+pub neither_cached : (s : Sizes) (online : Kind) (st : SpaceState) (f : ℕ) → IsSpace s online st → is_cached st f ≡ true → IsNeither (runs_of s online st) f
 neither_cached s online st f h c =
     neither s online st f (h.cached_there f c)
     (not_free_cached (is_out st f) (is_isolated s st f) (is_cached st f) c)
     (not_aside_cached (is_out st f) (is_isolated s st f) (h.cached_not_isolated f c))
 
-pub drainable : (s : Sizes) (online : Kind) (st : SpaceState) → IsSpace s st → IsDrainable st.caches (runs_of s online st)
+pub drainable : (s : Sizes) (online : Kind) (st : SpaceState) → IsSpace s online st → IsDrainable st.caches (runs_of s online st)
 drainable s online st h = record {
   distinct = h.distinct;
   givable = λ f c. (h.cached_there f c, neither_cached s online st f h c);

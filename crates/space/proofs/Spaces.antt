@@ -83,7 +83,7 @@ aside_drained true false true false i = refl
 aside_drained false false true true i = refl
 aside_drained false false true false i = refl
 
-pub drained_runs : (s : Sizes) (online kind : Kind) (st : SpaceState) → IsSpace s st → with_frames (λ f. list_any (is_in f) st.caches && fits s online kind f) (runs_of s online st) ≡ runs_of s online (drained s online kind st)
+pub drained_runs : (s : Sizes) (online kind : Kind) (st : SpaceState) → IsSpace s online st → with_frames (λ f. list_any (is_in f) st.caches && fits s online kind f) (runs_of s online st) ≡ runs_of s online (drained s online kind st)
 drained_runs s online kind st h =
     let n : ℕ = frame_count s in
     let out : ℕ → Bool = λ f. is_some (out_for st f) in
@@ -109,7 +109,7 @@ length_filter_le : (t : ℕ → Bool) (xs : List ℕ) → length (filter t xs) �
 length_filter_le t [] = omega arith
 length_filter_le t (x ∷ xs) = length_cond_le (t x) x (filter t xs) (length xs) (length_filter_le t xs)
 
-pub drained_space : (s : Sizes) (online kind : Kind) (st : SpaceState) → IsSpace s st → IsSpace s (drained s online kind st)
+pub drained_space : (s : Sizes) (online kind : Kind) (st : SpaceState) → IsSpace s online st → IsSpace s online (drained s online kind st)
 drained_space s online kind st h =
     let test : ℕ → Bool = λ f. not (fits s online kind f) in
     let was : (f : ℕ) → list_any (is_in f) (map (filter test) st.caches) ≡ true → list_any (is_in f) st.caches ≡ true = λ f t. (and_parts _ _ (sym (any-filter test f st.caches) ∙ t)).0 in
@@ -119,6 +119,8 @@ drained_space s online kind st h =
       offline = h.offline;
       offline_isolated = h.offline_isolated;
       emptied = h.emptied;
+      fitting = h.fitting;
+      isolated_movable = h.isolated_movable;
       caches = record {
         callers = length-map st.caches (filter test) ∙ h.caches.callers;
         few = λ who. omega (arith, ap (λ (xs : List ℕ). length xs) (get_or-filter_each test st.caches who), length_filter_le test (get_or st.caches who []), h.caches.few who);
@@ -139,7 +141,7 @@ one_free s free f below there =
     and_from _ _ (and_from _ _ (and_from _ _ (eq-eqb (f % 1) 0 (omega arith)) (le-leb 1 s.block (some_block (s.boot + s.managed) s.block f below))) (lt-ltb f (frame_count s) below)) (and_from _ _ there refl)
 
 -- a frame that is drained is free
-pub drained_frame : (s : Sizes) (online kind : Kind) (st : SpaceState) (f : ℕ) → IsSpace s st → list_any (is_in f) st.caches ≡ true → fits s online kind f ≡ true → IsFreeFrame s (drained s online kind st) f
+pub drained_frame : (s : Sizes) (online kind : Kind) (st : SpaceState) (f : ℕ) → IsSpace s online st → list_any (is_in f) st.caches ≡ true → fits s online kind f ≡ true → IsFreeFrame s (drained s online kind st) f
 drained_frame s online kind st f h there fit = record {
   below = h.cached_there f there;
   not_out = h.cached_not_out f there;
@@ -148,7 +150,7 @@ drained_frame s online kind st f h there fit = record {
 }
 
 -- where no frame is free behind the drain, no frame was drained
-pub drained_same : (s : Sizes) (online kind : Kind) (st : SpaceState) → IsSpace s st → ((first : ℕ) → fits s online kind first ≡ true → is_all_free s (free_frames s (drained s online kind st)) 0 first ≡ false) → drained s online kind st ≡ st
+pub drained_same : (s : Sizes) (online kind : Kind) (st : SpaceState) → IsSpace s online st → ((first : ℕ) → fits s online kind first ≡ true → is_all_free s (free_frames s (drained s online kind st)) 0 first ≡ false) → drained s online kind st ≡ st
 drained_same s online kind st h none =
     let kept : map (filter (λ f. not (fits s online kind f))) st.caches ≡ st.caches =
     filter_each_all (λ f. not (fits s online kind f)) st.caches (λ f there.
@@ -200,7 +202,7 @@ from_run_free false false true rest cached = refl
 from_run_free false false false true cached = sym (and_false (not cached))
 from_run_free false false false false cached = sym (and_true (not cached))
 
-pub run_taken : (s : Sizes) (online : Kind) (st : SpaceState) (who order first page : ℕ) (kind : Kind) → IsSpace s st → who ≤ 16 → get_or st.caches who [] ≡ [] → IsFreeFrame s st first → 0 < 2 ^ order → runs_of s online (after_lease st (Some (record { frame = first; caches = set st.caches who (range_with_len (first + 1) (2 ^ order - 1)) })) page kind) ≡ after_take order (Some first) (runs_of s online st)
+pub run_taken : (s : Sizes) (online : Kind) (st : SpaceState) (who order first page : ℕ) (kind : Kind) → IsSpace s online st → who ≤ 16 → get_or st.caches who [] ≡ [] → IsFreeFrame s st first → 0 < 2 ^ order → runs_of s online (after_lease st (Some (record { frame = first; caches = set st.caches who (range_with_len (first + 1) (2 ^ order - 1)) })) page kind) ≡ after_take order (Some first) (runs_of s online st)
 run_taken s online st who order first page kind h caller empty free some =
     let rest : ℕ = 2 ^ order - 1 in
     let whole : (f : ℕ) → (eqb f first || is_between (first + 1) (first + 1 + rest) f) ≡ is_between first (first + 2 ^ order) f =
@@ -212,7 +214,7 @@ run_taken s online st who order first page kind h caller empty free some =
     ∙ ap (λ (t : Bool). (not (is_some (out_for st f)) && not (is_frame_in s st.isolated f) && not (list_any (is_in f) st.caches)) && not t) (whole f)))
 
 -- a run of one frame
-pub frame_taken : (s : Sizes) (online : Kind) (st : SpaceState) (first page : ℕ) (kind : Kind) → IsSpace s st → IsFreeFrame s st first → runs_of s online (after_lease st (Some (record { frame = first; caches = st.caches })) page kind) ≡ after_take 0 (Some first) (runs_of s online st)
+pub frame_taken : (s : Sizes) (online : Kind) (st : SpaceState) (first page : ℕ) (kind : Kind) → IsSpace s online st → IsFreeFrame s st first → runs_of s online (after_lease st (Some (record { frame = first; caches = st.caches })) page kind) ≡ after_take 0 (Some first) (runs_of s online st)
 frame_taken s online st first page kind h free =
     leased_runs s online st (record { frame = first; caches = st.caches }) page kind (is_between first (first + 1)) h.out free.below free.not_isolated (λ f.
     from_run_free (eqb f first) (is_some (out_for st f)) (is_frame_in s st.isolated f) false (list_any (is_in f) st.caches)
@@ -224,7 +226,7 @@ from_cache_free : (here out isolated rest : Bool) → (not (here || out) && not 
 from_cache_free true out isolated rest = sym (and_false (not out && not isolated))
 from_cache_free false out isolated rest = refl
 
-pub cached_taken : (s : Sizes) (online : Kind) (st : SpaceState) (who first page : ℕ) (rest : List ℕ) (kind : Kind) → IsSpace s st → get_or st.caches who [] ≡ first ∷ rest → runs_of s online (after_lease st (Some (record { frame = first; caches = set st.caches who rest })) page kind) ≡ runs_of s online st
+pub cached_taken : (s : Sizes) (online : Kind) (st : SpaceState) (who first page : ℕ) (rest : List ℕ) (kind : Kind) → IsSpace s online st → get_or st.caches who [] ≡ first ∷ rest → runs_of s online (after_lease st (Some (record { frame = first; caches = set st.caches who rest })) page kind) ≡ runs_of s online st
 cached_taken s online st who first page rest kind h held =
     let there : list_any (is_in first) st.caches ≡ true = any-get_or first st.caches who (ap (is_in first) held ∙ or_left _ _ (eq-eqb first first refl)) in
     let same : numbers_where (λ f. is_in f (free_frames s st) && not false) (frame_count s) ≡ free_frames s st =

@@ -7,9 +7,10 @@ use Rattle.std.proofs.Math.ListN.{set}
 use Rattle.std.proofs.lemmas.Bool.{cases_Bool, cases_eq, cases_lt, both_ways, false≢true, eqb-true, eq-eqb, ne_eqb, and_parts, and_left, or_cases, or_left, or_from}
 use Rattle.std.proofs.lemmas.List.{length-set, get_or-set_same, get_or-set_other, get_or_past}
 use Rattle.evac_model.specs.declared.names.Kind.{Kind}
+use Rattle.evac_model.specs.declared.names.Kind.TheVariants.{Movable, Unmovable}
 use Rattle.evac_model.specs.Geometry.{Sizes, frame_count}
 use Rattle.evac_model.specs.Numbers.{is_in}
-use Rattle.evac_model.specs.SpaceJournal.{SpaceState, Out, out_for, is_frame_of, is_frame_in, with_block, without_block, put_back, IsEmptied}
+use Rattle.evac_model.specs.SpaceJournal.{SpaceState, Out, out_for, is_frame_of, is_frame_in, with_block, without_block, put_back, IsEmptied, HasMovableAlone}
 use Rattle.buddy.specs.FreeFrames.{with_frames, with_withdrawn, with_restored}
 use Rattle.space.specs.SpaceInside.{IsSpace, runs_of}
 use Rattle.space.proofs.ListMembers.{any-map-filter, distinct-map-filter}
@@ -52,13 +53,26 @@ cached_drained s b f caches h =
     let parts : (list_any (is_in f) caches ≡ true) × (not (is_frame_of s b f) ≡ true) = and_parts _ _ (sym (any-map-filter f (λ x. not (is_frame_of s b x)) caches) ∙ h) in
     (parts.0, and_not (is_frame_of s b f) parts.1)
 
-pub space_isolated : (s : Sizes) (st : SpaceState) (b : ℕ) → IsSpace s st → b < s.managed → IsSpace s (isolated_state s b st)
-space_isolated s st b h l = record {
+movable_else : (k : Kind) → (k ≡ Unmovable → ⊥) → k ≡ Movable
+movable_else Movable ne = refl
+movable_else Unmovable ne = absurd (ne refl)
+
+movable_out : (s : Sizes) (st : SpaceState) (b f : ℕ) (x : Out) → HasMovableAlone s st b → is_frame_of s b f ≡ true → out_for st f ≡ Some x → x.kind ≡ Movable
+movable_out s st b f x alone there out =
+    movable_else x.kind (λ e. alone f x.page there (out ∙ ap (λ (k : Kind). Some (let y : Out = record { page = x.page; kind = k } in y)) e))
+
+pub space_isolated : (s : Sizes) (online : Kind) (st : SpaceState) (b : ℕ) → IsSpace s online st → b < s.managed → HasMovableAlone s st b → IsSpace s online (isolated_state s b st)
+space_isolated s online st b h l alone = record {
   out = h.out;
   isolated = rising-with_block s b st.isolated;
   offline = h.offline;
   offline_isolated = λ k there. is_in-with_block s b st.isolated k h.isolated l ∙ or_left _ _ (h.offline_isolated k there);
   emptied = h.emptied;
+  fitting = h.fitting;
+  isolated_movable = λ f x there out. elim (or_cases (is_frame_in s st.isolated f) (is_frame_of s b f) (sym (frame_in-with_block s b st.isolated f h.isolated l) ∙ there)) [
+    | inl old ↦ h.isolated_movable f x old out
+    | inr new ↦ movable_out s st b f x alone new out
+  ];
   caches = caches_filtered (λ x. not (is_frame_of s b x)) st.caches h.caches;
   distinct = distinct-map-filter (λ x. not (is_frame_of s b x)) st.caches h.distinct;
   cached_there = λ f c. h.cached_there f (cached_drained s b f st.caches c).0;
@@ -95,7 +109,7 @@ aside_drained false false true false hi = refl
 none_out : (o : Option Out) → o ≡ None → is_some o ≡ false
 none_out o e = ap is_some e
 
-pub runs_drained : (s : Sizes) (online : Kind) (st : SpaceState) (b : ℕ) → IsSpace s st → with_frames (λ frame. list_any (is_in frame) st.caches && is_frame_of s b frame) (runs_of s online st) ≡ runs_of s online (drained_state s b st)
+pub runs_drained : (s : Sizes) (online : Kind) (st : SpaceState) (b : ℕ) → IsSpace s online st → with_frames (λ frame. list_any (is_in frame) st.caches && is_frame_of s b frame) (runs_of s online st) ≡ runs_of s online (drained_state s b st)
 runs_drained s online st b h =
     runs_given s online st (drained_state s b st) (λ f. is_cached st f && is_frame_of s b f) refl
     (λ f l.
@@ -119,7 +133,7 @@ aside_withdrawn false false true false = refl
 aside_withdrawn false false false true = refl
 aside_withdrawn false false false false = refl
 
-pub runs_isolated : (s : Sizes) (online : Kind) (st : SpaceState) (b : ℕ) → IsSpace s st → b < s.managed → with_withdrawn b (runs_of s online (drained_state s b st)) ≡ runs_of s online (isolated_state s b st)
+pub runs_isolated : (s : Sizes) (online : Kind) (st : SpaceState) (b : ℕ) → IsSpace s online st → b < s.managed → with_withdrawn b (runs_of s online (drained_state s b st)) ≡ runs_of s online (isolated_state s b st)
 runs_isolated s online st b h l =
     let cached : ℕ → Bool = λ f. list_any (is_in f) (map (filter (λ x. not (is_frame_of s b x))) st.caches) in
     runs_withdrawn s online (drained_state s b st) (isolated_state s b st) b refl
@@ -134,8 +148,8 @@ runs_isolated s online st b h l =
     ∙ ap (λ (t : Bool). (not (is_out st f) && is_isolated s st f) || ((not (is_out st f) && not (is_isolated s st f) && not t) && is_frame_of s b f)) (sym (any-map-filter f (λ x. not (is_frame_of s b x)) st.caches)))
 
 -- undo
-pub space_undone : (s : Sizes) (st : SpaceState) (b : ℕ) → IsSpace s st → is_in b st.offline ≡ false → IsSpace s (undone_state b st)
-space_undone s st b h off = record {
+pub space_undone : (s : Sizes) (online : Kind) (st : SpaceState) (b : ℕ) → IsSpace s online st → is_in b st.offline ≡ false → IsSpace s online (undone_state b st)
+space_undone s online st b h off = record {
   out = h.out;
   isolated = rising-without_block s.managed b st.isolated h.isolated;
   offline = h.offline;
@@ -143,6 +157,8 @@ space_undone s st b h off = record {
       let other : eqb k b ≡ false = ne_eqb k b (λ e. both_ways (is_in b st.offline) off (ap (λ (z : ℕ). is_in z st.offline) (sym e) ∙ there)) in
       is_in-without_block s.managed b st.isolated k h.isolated ∙ ap (λ (t : Bool). t && not (eqb k b)) (h.offline_isolated k there) ∙ ap not other;
   emptied = h.emptied;
+  fitting = h.fitting;
+  isolated_movable = λ f x there. h.isolated_movable f x (and_parts _ _ (sym (frame_in-without_block s s.managed b st.isolated f h.isolated) ∙ there)).0;
   caches = h.caches;
   distinct = h.distinct;
   cached_there = h.cached_there;
@@ -163,7 +179,7 @@ and_assoc : (x y z : Bool) → (x && (y && z)) ≡ ((x && y) && z)
 and_assoc true y z = refl
 and_assoc false y z = refl
 
-pub runs_undone : (s : Sizes) (online : Kind) (st : SpaceState) (b : ℕ) → IsSpace s st → is_in b st.isolated ≡ true → with_restored b (runs_of s online st) ≡ runs_of s online (undone_state b st)
+pub runs_undone : (s : Sizes) (online : Kind) (st : SpaceState) (b : ℕ) → IsSpace s online st → is_in b st.isolated ≡ true → with_restored b (runs_of s online st) ≡ runs_of s online (undone_state b st)
 runs_undone s online st b h there =
     runs_restored s online st (undone_state b st) b refl
     (λ f l.
@@ -174,8 +190,8 @@ runs_undone s online st b h there =
     ∙ and_assoc (not (is_out st f)) (is_isolated s st f) (not (is_frame_of s b f)))
 
 -- offline and online
-pub space_offline : (s : Sizes) (st : SpaceState) (b : ℕ) → IsSpace s st → is_in b st.isolated ≡ true → IsEmptied s st b → IsSpace s (offline_state s b st)
-space_offline s st b h there empty =
+pub space_offline : (s : Sizes) (online : Kind) (st : SpaceState) (b : ℕ) → IsSpace s online st → is_in b st.isolated ≡ true → IsEmptied s st b → IsSpace s online (offline_state s b st)
+space_offline s online st b h there empty =
     let l : b < s.managed = is_in_bound s.managed st.isolated b h.isolated there in
     record {
       out = h.out;
@@ -189,6 +205,8 @@ space_offline s st b h there empty =
         | inl old ↦ h.emptied f old
         | inr new ↦ empty f new
       ];
+      fitting = h.fitting;
+      isolated_movable = h.isolated_movable;
       caches = h.caches;
       distinct = h.distinct;
       cached_there = h.cached_there;
@@ -196,8 +214,8 @@ space_offline s st b h there empty =
       cached_not_isolated = h.cached_not_isolated;
     }
 
-pub space_online : (s : Sizes) (st : SpaceState) (b : ℕ) → IsSpace s st → IsSpace s (online_state b st)
-space_online s st b h = record {
+pub space_online : (s : Sizes) (online : Kind) (st : SpaceState) (b : ℕ) → IsSpace s online st → IsSpace s online (online_state b st)
+space_online s online st b h = record {
   out = h.out;
   isolated = rising-without_block s.managed b st.isolated h.isolated;
   offline = rising-without_block s.managed b st.offline h.offline;
@@ -205,6 +223,8 @@ space_online s st b h = record {
       let parts : (is_in k st.offline ≡ true) × (not (eqb k b) ≡ true) = and_parts _ _ (sym (is_in-without_block s.managed b st.offline k h.offline) ∙ there) in
       is_in-without_block s.managed b st.isolated k h.isolated ∙ ap (λ (t : Bool). t && not (eqb k b)) (h.offline_isolated k parts.0) ∙ parts.1;
   emptied = λ f there. h.emptied f (and_parts _ _ (sym (frame_in-without_block s s.managed b st.offline f h.offline) ∙ there)).0;
+  fitting = h.fitting;
+  isolated_movable = λ f x there. h.isolated_movable f x (and_parts _ _ (sym (frame_in-without_block s s.managed b st.isolated f h.isolated) ∙ there)).0;
   caches = h.caches;
   distinct = h.distinct;
   cached_there = h.cached_there;
@@ -212,7 +232,7 @@ space_online s st b h = record {
   cached_not_isolated = λ f c. frame_in-without_block s s.managed b st.isolated f h.isolated ∙ and_left _ _ (h.cached_not_isolated f c);
 }
 
-pub runs_online : (s : Sizes) (online : Kind) (st : SpaceState) (b : ℕ) → IsSpace s st → is_in b st.offline ≡ true → with_restored b (runs_of s online st) ≡ runs_of s online (online_state b st)
+pub runs_online : (s : Sizes) (online : Kind) (st : SpaceState) (b : ℕ) → IsSpace s online st → is_in b st.offline ≡ true → with_restored b (runs_of s online st) ≡ runs_of s online (online_state b st)
 runs_online s online st b h there =
     runs_restored s online st (online_state b st) b refl
     (λ f l.
@@ -231,14 +251,14 @@ is_out-from st f h = go (out_for st f) h
     go (Some o) ne = refl
 
 -- a frame that is out is one of the machine's, and in no cache
-pub out_in_count : (s : Sizes) (st : SpaceState) (f : ℕ) → IsSpace s st → out_for st f ≢ None → f < frame_count s
-out_in_count s st f h ne = elim (cases_lt f (frame_count s)) [
+pub out_in_count : (s : Sizes) (online : Kind) (st : SpaceState) (f : ℕ) → IsSpace s online st → out_for st f ≢ None → f < frame_count s
+out_in_count s online st f h ne = elim (cases_lt f (frame_count s)) [
   | inl l ↦ l
   | inr g ↦ absurd (ne (get_or_past st.out f None (omega (arith, h.out))))
 ]
 
-pub out_not_cached : (s : Sizes) (st : SpaceState) (f : ℕ) → IsSpace s st → out_for st f ≢ None → is_cached st f ≡ false
-out_not_cached s st f h ne = elim (cases_Bool (is_cached st f)) [
+pub out_not_cached : (s : Sizes) (online : Kind) (st : SpaceState) (f : ℕ) → IsSpace s online st → out_for st f ≢ None → is_cached st f ≡ false
+out_not_cached s online st f h ne = elim (cases_Bool (is_cached st f)) [
   | inl c ↦ absurd (ne (h.cached_not_out f c))
   | inr isnt ↦ isnt
 ]
@@ -259,13 +279,24 @@ still_not_out out frame f h = elim (cases_eq f frame) [
   | inr ne ↦ cleared_other out frame f ne ∙ h
 ]
 
-pub space_cleared : (s : Sizes) (st : SpaceState) (frame : ℕ) → IsSpace s st → IsSpace s (cleared_state frame st)
-space_cleared s st frame h = record {
+-- a frame that still is out was out for the same
+still_out : (out : List (Option Out)) (frame f : ℕ) (x : Out) → get_or (set out frame None) f None ≡ Some x → get_or out f None ≡ Some x
+still_out out frame f x e = elim (cases_eq f frame) [
+  | inl same ↦
+      let none : None ≡ Some x = sym (ap (λ (i : ℕ). get_or (set out frame None) i None) same ∙ cleared_here out frame) ∙ e in
+      absurd (cc none)
+  | inr ne ↦ sym (cleared_other out frame f ne) ∙ e
+]
+
+pub space_cleared : (s : Sizes) (online : Kind) (st : SpaceState) (frame : ℕ) → IsSpace s online st → IsSpace s online (cleared_state frame st)
+space_cleared s online st frame h = record {
   out = length-set st.out frame None ∙ h.out;
   isolated = h.isolated;
   offline = h.offline;
   offline_isolated = h.offline_isolated;
   emptied = λ f there. still_not_out st.out frame f (h.emptied f there);
+  fitting = λ f x e. h.fitting f x (still_out st.out frame f x e);
+  isolated_movable = λ f x there e. h.isolated_movable f x there (still_out st.out frame f x e);
   caches = h.caches;
   distinct = h.distinct;
   cached_there = h.cached_there;
@@ -286,7 +317,7 @@ or_none : (x v : Bool) → x ≡ (x || (false && v))
 or_none true v = refl
 or_none false v = refl
 
-pub runs_cleared : (s : Sizes) (online : Kind) (st : SpaceState) (frame : ℕ) → IsSpace s st → out_for st frame ≢ None → is_frame_in s st.isolated frame ≡ true → with_frames (λ f. eqb f frame) (runs_of s online st) ≡ runs_of s online (cleared_state frame st)
+pub runs_cleared : (s : Sizes) (online : Kind) (st : SpaceState) (frame : ℕ) → IsSpace s online st → out_for st frame ≢ None → is_frame_in s st.isolated frame ≡ true → with_frames (λ f. eqb f frame) (runs_of s online st) ≡ runs_of s online (cleared_state frame st)
 runs_cleared s online st frame h ne iso =
     let next : SpaceState = cleared_state frame st in
     let o_here : is_out st frame ≡ true = is_out-from st frame ne in
@@ -315,22 +346,24 @@ returned_cached s st who frame P here before f c = elim (cases_eq f frame) [
   | inr ne ↦ before f (put_back_from st.caches who frame f c ne)
 ]
 
-pub space_returned : (s : Sizes) (st : SpaceState) (who frame : ℕ) → IsSpace s st → who ≤ 16 → out_for st frame ≢ None → is_frame_in s st.isolated frame ≡ false → IsSpace s (returned_state who frame st)
-space_returned s st who frame h w ne iso = record {
+pub space_returned : (s : Sizes) (online : Kind) (st : SpaceState) (who frame : ℕ) → IsSpace s online st → who ≤ 16 → out_for st frame ≢ None → is_frame_in s st.isolated frame ≡ false → IsSpace s online (returned_state who frame st)
+space_returned s online st who frame h w ne iso = record {
   out = length-set st.out frame None ∙ h.out;
   isolated = h.isolated;
   offline = h.offline;
   offline_isolated = h.offline_isolated;
   emptied = λ f there. still_not_out st.out frame f (h.emptied f there);
+  fitting = λ f x e. h.fitting f x (still_out st.out frame f x e);
+  isolated_movable = λ f x there e. h.isolated_movable f x there (still_out st.out frame f x e);
   caches = caches_put_back st.caches who frame w h.caches;
-  distinct = distinct_put_back st.caches who frame h.distinct (out_not_cached s st frame h ne);
-  cached_there = returned_cached s st who frame (λ f. f < frame_count s) (out_in_count s st frame h ne) h.cached_there;
+  distinct = distinct_put_back st.caches who frame h.distinct (out_not_cached s online st frame h ne);
+  cached_there = returned_cached s st who frame (λ f. f < frame_count s) (out_in_count s online st frame h ne) h.cached_there;
   cached_not_out = returned_cached s st who frame (λ f. get_or (set st.out frame None) f None ≡ None) (cleared_here st.out frame) (λ f c. still_not_out st.out frame f (h.cached_not_out f c));
   cached_not_isolated = returned_cached s st who frame (λ f. is_frame_in s st.isolated f ≡ false) iso h.cached_not_isolated;
 }
 
 -- where no frame is pushed out, the runs have what they had
-pub runs_put : (s : Sizes) (online : Kind) (st : SpaceState) (who frame : ℕ) → IsSpace s st → who ≤ 16 → out_for st frame ≢ None → is_frame_in s st.isolated frame ≡ false → length (get_or st.caches who []) ≤ 7 → runs_of s online st ≡ runs_of s online (returned_state who frame st)
+pub runs_put : (s : Sizes) (online : Kind) (st : SpaceState) (who frame : ℕ) → IsSpace s online st → who ≤ 16 → out_for st frame ≢ None → is_frame_in s st.isolated frame ≡ false → length (get_or st.caches who []) ≤ 7 → runs_of s online st ≡ runs_of s online (returned_state who frame st)
 runs_put s online st who frame h w ne iso few =
     let next : SpaceState = returned_state who frame st in
     let o_here : is_out st frame ≡ true = is_out-from st frame ne in
@@ -353,12 +386,12 @@ runs_put s online st who frame h w ne iso few =
     refl
 
 -- else they get the frame pushed out
-pub runs_pushed : (s : Sizes) (online : Kind) (st : SpaceState) (who frame : ℕ) → IsSpace s st → who ≤ 16 → out_for st frame ≢ None → is_frame_in s st.isolated frame ≡ false → length (get_or st.caches who []) ≡ 8 → with_frames (λ f. eqb f (get_or (get_or st.caches who []) 7 0)) (runs_of s online st) ≡ runs_of s online (returned_state who frame st)
+pub runs_pushed : (s : Sizes) (online : Kind) (st : SpaceState) (who frame : ℕ) → IsSpace s online st → who ≤ 16 → out_for st frame ≢ None → is_frame_in s st.isolated frame ≡ false → length (get_or st.caches who []) ≡ 8 → with_frames (λ f. eqb f (get_or (get_or st.caches who []) 7 0)) (runs_of s online st) ≡ runs_of s online (returned_state who frame st)
 runs_pushed s online st who frame h w ne iso all =
     let next : SpaceState = returned_state who frame st in
     let p : ℕ = get_or (get_or st.caches who []) 7 0 in
     let p_cached : is_cached st p ≡ true = pushed_in st.caches who all in
-    let p_other : p ≡ frame → ⊥ = λ e. both_ways (is_cached st frame) (out_not_cached s st frame h ne) (ap (λ (k : ℕ). is_cached st k) (sym e) ∙ p_cached) in
+    let p_other : p ≡ frame → ⊥ = λ e. both_ways (is_cached st frame) (out_not_cached s online st frame h ne) (ap (λ (k : ℕ). is_cached st k) (sym e) ∙ p_cached) in
     let frame_other : eqb frame p ≡ false = ne_eqb frame p (λ e. p_other (sym e)) in
     let o_here : is_out st frame ≡ true = is_out-from st frame ne in
     let n_here : is_out next frame ≡ false = ap is_some (cleared_here st.out frame) in

@@ -10,7 +10,7 @@ use Rattle.space.specs.SpaceInside.{IsSpace, runs_of}
 
 -- the runs and the caches are those of a space
 pub record AreOfSpace (st : SpaceState) (runs : FreeFrames) (caches : List (List ℕ)) : Type 0 where
-  pub space : IsSpace runs.sizes st
+  pub space : IsSpace runs.sizes runs.online st
   pub free : runs ≡ runs_of runs.sizes runs.online st
   pub cached : caches ≡ st.caches
 

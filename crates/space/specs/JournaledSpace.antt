@@ -1,6 +1,6 @@
 -- A frame space as its journal: all that it answers follows from the actions so far.
-use Rattle.std.specs.Prelude.{◌≡◌, ℕ, true, nat_eq, List, [], ◌∷◌, ◌++◌, map}
-use Rattle.std.specs.List.{AllByRecursion, IsDistinct}
+use Rattle.std.specs.Prelude.{◌≡◌, ℕ, true, List, [], ◌∷◌, ◌++◌}
+use Rattle.std.specs.List.{AllByRecursion}
 use Rattle.evac_model.specs.declared.names.Kind.{Kind}
 use Rattle.evac_model.specs.declared.scenario.StartPage.{StartPage}
 use Rattle.evac_model.specs.declared.space.SpaceAction.{SpaceAction}
@@ -28,8 +28,7 @@ with_action a v = record v { journal = v.journal ++ a ∷ [] }
 abbrev pub IsLeasableFor : JournaledSpace → (kind : Kind) → (frame : ℕ) → Type 0
 IsLeasableFor v kind frame = IsLeasable v.sizes v.online (state_of v) kind frame
 
--- frames that a space may open with: they are there at the start, each once, and take their pages
+-- frames that a space may open with: they are there at the start, and take their pages
 pub record AreStartFrames (s : Sizes) (online : Kind) (start : List StartPage) : Type 0 where
   pub there : AllByRecursion (λ p. IsThereAtStart s p.frame.0) start
   pub fitting : AllByRecursion (λ p. fits s online p.kind p.frame.0 ≡ true) start
-  pub distinct : IsDistinct nat_eq (map (λ p. p.frame.0) start)

@@ -21,7 +21,7 @@ left_by v = record { sizes = v.sizes; online = v.online; state = state_of v }
 -- another lease or isolation.
 pub record IsLeftBy (v : JournaledSpace) (k : KeptSpace) (used owed room : ℕ) : Type 0 where
   pub within : IsWithinLimits k.sizes
-  pub space : IsSpace k.sizes k.state
+  pub space : IsSpace k.sizes k.online k.state
   pub left : k ≡ left_by v
   pub possible : IsPossibleJournal v.sizes v.online v.opening v.journal
   pub owed_for : IsOwed k.state owed

@@ -39,7 +39,7 @@ marks_of k = record { sizes = k.sizes; isolated = k.state.isolated; out = k.stat
 -- runs, marks, caches and bits have what a space says
 pub record AreOf (k : KeptSpace) (r : FreeFrames) (m : Marks) (held : List (List ℕ)) (bits : List Bool) : Type 0 where
   pub within : IsWithinLimits k.sizes
-  pub space : IsSpace k.sizes k.state
+  pub space : IsSpace k.sizes k.online k.state
   pub runs : r ≡ runs_of k.sizes k.online k.state
   pub marks : m ≡ marks_of k
   pub caches : held ≡ k.state.caches

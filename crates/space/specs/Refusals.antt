@@ -16,11 +16,6 @@ abbrev pub IsFirstOf : List (ℕ × Out) → IsolateFault → Type 0
 IsFirstOf frames (Unmovable frame page) = first_page frames ≡ Some (frame, page)
 IsFirstOf frames OutOfMemory = Unit {0}
 
--- a fault other than want of memory comes only where a fact holds
-abbrev pub Shows : Type 0 → IsolateFault → Type 0
-Shows P (Unmovable frame page) = P
-Shows P OutOfMemory = Unit {0}
-
 -- whether a block is empty, given its frames that are out
 abbrev pub emptiness : List (ℕ × Out) → Result Unit NotEmpty
 emptiness [] = Ok tt

@@ -1,11 +1,13 @@
 -- How a space is kept: what the free runs, the marks and the caches have is what its journal leaves.
-use Rattle.std.specs.Prelude.{◌≡◌, ℕ, ◌+◌, ◌*◌, ◌<◌, true, false, ◌&&◌, not, List, length, None}
+use Rattle.std.specs.Prelude.{◌≡◌, ℕ, ◌+◌, ◌*◌, ◌<◌, true, false, ◌&&◌, not, List, length, None, Some}
 use Rattle.std.specs.List.{list_any, concat, count_by}
 use Rattle.std.specs.Option.{is_some}
 use Rattle.evac_model.specs.declared.names.Kind.{Kind}
+use Rattle.evac_model.specs.declared.names.Kind.TheVariants.{Movable}
 use Rattle.evac_model.specs.Geometry.{Sizes, frame_count}
 use Rattle.evac_model.specs.Numbers.{numbers_where, is_in, IsRisingBelow}
-use Rattle.evac_model.specs.SpaceJournal.{SpaceState, out_for, is_frame_in, free_frames}
+use Rattle.evac_model.specs.FreeRuns.{fits}
+use Rattle.evac_model.specs.SpaceJournal.{SpaceState, Out, out_for, is_frame_in, free_frames}
 use Rattle.buddy.specs.FreeFrames.{FreeFrames}
 use Rattle.frame_cache.specs.Drains.{AreCaches, AreDistinct}
 
@@ -25,13 +27,16 @@ runs_of s online st = record {
 }
 
 -- What always holds of a space: a cached frame is in one cache, once, and is neither out nor in an isolated
--- block; offline blocks are isolated, and none of their frames is out.
-pub record IsSpace (s : Sizes) (st : SpaceState) : Type 0 where
+-- block; a frame that is out lies in a block that takes its kind, and is movable where the block is isolated;
+-- offline blocks are isolated, and none of their frames is out.
+pub record IsSpace (s : Sizes) (online : Kind) (st : SpaceState) : Type 0 where
   pub out : length st.out ≡ frame_count s
   pub isolated : IsRisingBelow s.managed st.isolated
   pub offline : IsRisingBelow s.managed st.offline
   pub offline_isolated : (block : ℕ) → is_in block st.offline ≡ true → is_in block st.isolated ≡ true
   pub emptied : (frame : ℕ) → is_frame_in s st.offline frame ≡ true → out_for st frame ≡ None
+  pub fitting : (frame : ℕ) (x : Out) → out_for st frame ≡ Some x → fits s online x.kind frame ≡ true
+  pub isolated_movable : (frame : ℕ) (x : Out) → is_frame_in s st.isolated frame ≡ true → out_for st frame ≡ Some x → x.kind ≡ Movable
   pub caches : AreCaches st.caches
   pub distinct : AreDistinct (concat st.caches)
   pub cached_there : (frame : ℕ) → list_any (is_in frame) st.caches ≡ true → frame < frame_count s

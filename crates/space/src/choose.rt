@@ -104,12 +104,12 @@ fn choose_unmovable(runs: &mut Runs, caches: &mut Caches) -> Option<FrameNo>
 pub(crate) fn choose(runs: &mut Runs, caches: &mut Caches, who: u32, kind: Kind) -> Option<FrameNo>
     requires caller { who ≤ 16 }
     requires drainable { IsDrainable caches.old runs.old }
-    ensures chosen { (st : SpaceState) → IsSpace runs.old.sizes st → runs.old ≡ runs_of runs.old.sizes runs.old.online st → caches.old ≡ st.caches →
+    ensures chosen { (st : SpaceState) → IsSpace runs.old.sizes runs.old.online st → runs.old ≡ runs_of runs.old.sizes runs.old.online st → caches.old ≡ st.caches →
         result ≡ option_map (λ l. record { 0 = l.frame }) (lease_of runs.old.sizes runs.old.online st who kind) }
-    ensures taken { (st : SpaceState) (l : Leased) → IsSpace runs.old.sizes st → runs.old ≡ runs_of runs.old.sizes runs.old.online st → caches.old ≡ st.caches →
+    ensures taken { (st : SpaceState) (l : Leased) → IsSpace runs.old.sizes runs.old.online st → runs.old ≡ runs_of runs.old.sizes runs.old.online st → caches.old ≡ st.caches →
         lease_of runs.old.sizes runs.old.online st who kind ≡ Some l →
         (runs.new ≡ runs_of runs.old.sizes runs.old.online (after_lease st (Some l) 0 kind)) × (caches.new ≡ l.caches) }
-    ensures none { (st : SpaceState) → IsSpace runs.old.sizes st → runs.old ≡ runs_of runs.old.sizes runs.old.online st → caches.old ≡ st.caches →
+    ensures none { (st : SpaceState) → IsSpace runs.old.sizes runs.old.online st → runs.old ≡ runs_of runs.old.sizes runs.old.online st → caches.old ≡ st.caches →
         lease_of runs.old.sizes runs.old.online st who kind ≡ None →
         (runs.new ≡ runs.old) × (caches.new ≡ caches.old) }
 {

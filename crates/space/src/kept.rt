@@ -82,7 +82,7 @@ impl Kept {
     pub(crate) fn geometry(&self) -> Geometry
         ensures sizes { result ≡ self.now.sizes }
         ensures within { IsWithinLimits self.now.sizes }
-        ensures space { IsSpace self.now.sizes self.now.state }
+        ensures space { IsSpace self.now.sizes self.now.online self.now.state }
     {
         self.marks.geometry()
     }

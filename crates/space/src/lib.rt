@@ -13,8 +13,9 @@ pub use evac_model::{
     SpaceAction, StartPage,
 };
 pub use laws::{
-    journals_go_on, leased_frames_are_free, leases_keep_spaces, no_frame_out_is_offline,
-    openings_are_spaces, refused_leases_have_no_frame, spaces_stay_spaces,
+    frames_out_fit, frames_out_in_isolated_blocks_are_movable, journals_go_on,
+    leased_frames_are_free, leases_keep_spaces, no_frame_out_is_offline, openings_are_spaces,
+    refused_leases_have_no_frame, spaces_stay_spaces,
 };
 pub use space::Space;
 

@@ -82,10 +82,10 @@ fn frames_out(marks: &Blocks) -> usize
 
 impl Kept {
     ghost use Rattle.std.specs.Prelude.{◌≡◌, IfOk};
-    ghost use Rattle.std.specs.List.{AllByRecursion, count_by};
+    ghost use Rattle.std.specs.List.{count_by};
     ghost use Rattle.std.specs.Option.{is_some};
-    ghost use Rattle.evac_model.specs.Geometry.{IsThereAtStart};
     ghost use Rattle.evac_model.specs.SpaceJournal.{space_at_start};
+    ghost use Rattle.space.specs.JournaledSpace.{AreStartFrames};
 
     /// What a space keeps when it is opened: the start pages' frames are out, and the blocks that
     /// aren't plugged are offline. It looks at each frame once.
@@ -95,7 +95,7 @@ impl Kept {
         online: Kind,
         start: &[StartPage],
     ) -> Result<Kept, OutOfMemory>
-        requires { AllByRecursion (λ p. IsThereAtStart g.now p.frame.0) start.now }
+        requires { AreStartFrames g.now online start.now }
         ensures { IfOk result (λ k. k ≡ record { sizes = g.now; online = online; state = space_at_start g.now start.now }) }
     {
         let mut runs = Runs::new(alloc, *g, online)?;

@@ -57,7 +57,7 @@ impl Space {
     ghost use Rattle.page_blocks.specs.Marks.{page_and_kind, is_unmovable};
     ghost use Rattle.space.specs.JournaledSpace.{state_of, with_action, IsLeasableFor, AreStartFrames};
     ghost use Rattle.space.specs.SpaceInside.{IsSpace};
-    ghost use Rattle.space.specs.Refusals.{frames_out_of, IsFirstOf, Shows, emptiness};
+    ghost use Rattle.space.specs.Refusals.{frames_out_of, IsFirstOf, emptiness};
 
     /// Opens the space of a machine: the frames of the start pages are out, the blocks that aren't
     /// plugged are offline, and all other frames are free. It looks at each frame a few times.
@@ -86,7 +86,7 @@ impl Space {
     pub fn geometry(&self) -> Geometry
         ensures sizes { result ≡ self.now.sizes }
         ensures within { IsWithinLimits self.now.sizes }
-        ensures space { IsSpace self.now.sizes (state_of self.now) }
+        ensures space { IsSpace self.now.sizes self.now.online (state_of self.now) }
     {
         self.kept.geometry()
     }
@@ -179,7 +179,6 @@ impl Space {
         ensures possible { OnOk result (IsPossible self.old.sizes self.old.online (state_of self.old) (SpaceAction.Isolate b)) }
 
         ensures unmovable { IfErr result (IsFirstOf (filter is_unmovable (frames_out_of self.old.sizes (state_of self.old) b.0))) }
-        ensures refused { IfErr result (Shows (¬ IsPossible self.old.sizes self.old.online (state_of self.old) (SpaceAction.Isolate b))) }
         ensures err { OnErr result (self.new ≡ self.old) }
     {
         if self.journal.reserve(self.owed + 3).is_err() {

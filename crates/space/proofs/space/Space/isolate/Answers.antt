@@ -1,27 +1,12 @@
-use Rattle.std.proofs.Common.{◌∙◌, ◌++◌, ◌∷◌, [], List, ap, arith, vec_len, vec_capacity, sym, subst}
-use Rattle.evac_model.specs.declared.space.IsolateFault.{IsolateFault}
+use Rattle.std.proofs.Common.{◌∙◌, ◌++◌, ◌∷◌, [], List, ap, arith, vec_len, vec_capacity, sym}
 use Rattle.evac_model.specs.declared.space.SpaceAction.{SpaceAction}
 use Rattle.evac_model.specs.declared.space.SpaceAction.TheVariants.{Isolate}
 use Rattle.evac_model.specs.SpaceJournal.{IsPossible}
 use Rattle.space.specs.JournaledSpace.{state_of}
-use Rattle.space.specs.Refusals.{Shows}
 use Rattle.space.proofs.Journals.{promised, isolate_owed}
 use Rattle.space.proofs.JournalsKept.{left_opened, left_next}
-use Rattle.space.proofs.Refused.{movable_ok, not_movable_alone}
+use Rattle.space.proofs.Refused.{movable_ok}
 use Rattle.space.proofs.space.Space.isolate.Goals as goal
-
-pub returns-in-Err-clause-refused : goal.returns-in-Err-clause-refused
-returns-in-Err-clause-refused c =
-    let k = c.self.inside.kept in
-    let v = c.args.self.now in
-    let start = c.self.inside.start.items in
-    let journal = c.self.inside.journal.items in
-    let used = vec_len c.self.inside.journal in
-    let owed = c.self.inside.owed in
-    let room = vec_capacity c.self.inside.journal in
-    let h = left_opened k start journal used owed room v c.self.view_is c.self.invariant in
-    subst (λ (f : IsolateFault). Shows (¬ IsPossible v.sizes v.online (state_of v) (Isolate c.args.b)) f) (sym c.unmovable.ensures)
-    (λ possible. not_movable_alone v k used owed room c.args.b.0 c.in-Err.refused h c.in-Err.ensures.refused possible.2)
 
 pub invariant_of-self-2 : goal.invariant_of-self-2
 invariant_of-self-2 c =
