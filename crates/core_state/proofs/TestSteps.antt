@@ -65,7 +65,7 @@ start = record { page = record { 0 = 0 }; kind = Movable; frame = record { 0 = 1
 pub are_start_pages : AreStartPages small start
 unfolding IsDistinct
 are_start_pages = record {
-  each = (record { page = lit< tt; frame = lit< tt; kind = tt }, tt);
+  each = (record { page = lit< tt; frame = lit< tt }, tt);
   pages = (tt, tt);
   frames = (tt, tt);
 }

@@ -15,7 +15,8 @@ pub struct Aim {
 /// A frame in hand.
 #[derive(Drop)]
 pub struct HandFrame {
-    /// What the seat stored last in each cell, while it had the frame in hand.
+    /// What was stored last in each cell, while the frame was in a hand: by the seat, or by one that
+    /// handed it over.
     pub stores: KnownCells,
     /// What it is for, over shared words; none in a core.
     pub aim: Option<Aim>,
