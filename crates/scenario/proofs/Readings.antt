@@ -1,6 +1,6 @@
 -- What is read is spelled so, and what is spelled so is read.
 use Rattle.std.proofs.Common.{◌≡◌, ℕ, zero, suc, ◌≤◌, false, cond, List, [], ◌∷◌, ◌++◌, length, map, Option, Some, None, refl, inl, inr, sym, ap, ◌∙◌, subst, arith}
-use Rattle.std.specs.Prelude.{◌==◌, codes, Contains, IfSome}
+use Rattle.std.specs.Prelude.{◌==◌, codes, IfSome}
 use Rattle.std.specs.List.{AllByRecursion}
 use Rattle.std.specs.Fmt.{decimal}
 use Rattle.std.specs.Str.{bytes_eq}
@@ -13,13 +13,12 @@ use Rattle.evac_model.specs.declared.call.Call.TheVariants as calls
 use Rattle.evac_model.specs.declared.scenario.StartPage.{StartPage}
 use Rattle.evac_model.specs.declared.scenario.Drawn.{Drawn}
 use Rattle.evac_model.specs.Geometry.{Sizes}
-use Rattle.evac_model.specs.Scenarios.{IsBuilt}
-use Rattle.evac_model.specs.Spelling.{kind_word, call_words, turn_word, count_words}
-use Rattle.evac_model.specs.ScenarioLines.{Line, NamedTurn, MachineLine, PageLine, TurnsLine, DrawLine, CallLine, words_of, IsNumber, HasNumbers, HasTurnNumbers, Fits, BeginsWithX, later_calls, AsksLater}
+use Rattle.evac_model.specs.Spelling.{kind_word, online_word, call_words, turn_word, count_words}
+use Rattle.evac_model.specs.ScenarioLines.{Line, NamedTurn, MachineLine, OnlineLine, PageLine, TurnsLine, DrawLine, CallLine, words_of, IsNumber, HasNumbers, HasTurnNumbers, Fits}
 use Rattle.scenario.specs.Numbers.{number_of}
-use Rattle.scenario.specs.Reading.{◌>>=◌, number_at, kind_of, kind_at, ended, values_of, machine_of, page_of, draw_of, turns_of, turns_line_of, count_at, read_of, write_of, add_of, named_call, call_of, call_line_of, plain_line_of, line_of}
+use Rattle.scenario.specs.Reading.{◌>>=◌, number_at, kind_of, kind_at, online_of_word, online_at, ended, values_of, machine_of, online_kind_of, page_of, draw_of, turns_of, turns_line_of, count_at, alloc_of, read_of, write_of, add_of, named_call, call_of, call_line_of, plain_line_of, line_of}
 use Rattle.scenario.proofs.Numerals.{number_is, number_again}
-use Rattle.scenario.proofs.Names.{same_text, one_of}
+use Rattle.scenario.proofs.Names.{same_text}
 use Rattle.scenario.proofs.Steps.{bind_some, chosen, ended_is}
 use Rattle.scenario.proofs.TurnWords.{turns_read, turns_again}
 
@@ -52,6 +51,21 @@ kind_read (word ∷ rest) x e =
 kind_again : (kind : Kind) (rest : List (List ℕ)) → kind_at (kind_word kind ∷ rest) ≡ Some (kind, rest)
 kind_again Movable rest = refl
 kind_again Unmovable rest = refl
+
+online_is : (word : List ℕ) (kind : Kind) → online_of_word word ≡ Some kind → word ≡ online_word kind
+online_is word kind e = elim (chosen (bytes_eq word (codes "movable")) (Some Movable) (cond (bytes_eq word (codes "kernel")) (Some Unmovable) None) (Some kind) e) [
+  | inl here ↦ same_text word (codes "movable") here.0 ∙ ap online_word (same_Some Movable kind here.1)
+  | inr there ↦
+      let b = cond_some (bytes_eq word (codes "kernel")) Unmovable kind there.1 in
+      same_text word (codes "kernel") b.0 ∙ ap online_word b.1
+]
+
+online_at_read : (ws : List (List ℕ)) (x : Kind × List (List ℕ)) → online_at ws ≡ Some x → ws ≡ online_word x.0 ∷ x.1
+online_at_read [] x e = absurd (none-some x e)
+online_at_read (word ∷ rest) x e =
+    let k = bind_some (online_of_word word) (λ kind. Some (kind, rest)) x e in
+    let made : (k.0, rest) ≡ x = same_Some (k.0, rest) x k.2 in
+    subst (λ (y : Kind × List (List ℕ)). word ∷ rest ≡ online_word y.0 ∷ y.1) made (ap (λ (w : List ℕ). w ∷ rest) (online_is word k.0 k.1))
 
 -- ---- values
 
@@ -106,6 +120,15 @@ machine_read ws s e =
     let whole : codes "machine" ∷ ws ≡ codes "machine" ∷ map decimal (a.0.0 ∷ b.0.0 ∷ c.0.0 ∷ d.0.0 ∷ f.0.0 ∷ g.0.0 ∷ []) = ap (λ (t : List (List ℕ)). codes "machine" ∷ t) (followed ra.0 (followed rb.0 (followed rc.0 (followed rd.0 (followed rf.0 (followed rg.0 made.0)))))) in
     subst (λ (t : Sizes). Spelled (codes "machine" ∷ ws) (MachineLine t)) made.1 (whole, (ra.1, (rb.1, (rc.1, (rd.1, (rf.1, (rg.1, tt)))))))
 
+online_read : (ws : List (List ℕ)) (kind : Kind) → online_kind_of ws ≡ Some kind → Spelled (codes "online" ∷ ws) (OnlineLine kind)
+unfolding online_kind_of
+online_read ws kind e =
+    let a = bind_some (online_at ws) _ kind e in
+    let made = ended_is a.0.0 kind a.0.1 a.2 in
+    let ra = online_at_read ws a.0 a.1 in
+    let whole : codes "online" ∷ ws ≡ codes "online" ∷ online_word a.0.0 ∷ [] = ap (λ (t : List (List ℕ)). codes "online" ∷ t) (followed ra made.0) in
+    subst (λ (k : Kind). Spelled (codes "online" ∷ ws) (OnlineLine k)) made.1 (whole, tt)
+
 page_read : (ws : List (List ℕ)) (p : StartPage) → page_of ws ≡ Some p → Spelled (codes "page" ∷ ws) (PageLine p)
 unfolding page_of
 page_read ws p e =
@@ -149,6 +172,19 @@ Named name page ws call = (name ∷ decimal page ∷ ws ≡ call_words page call
 
 behind : (name : List ℕ) (page : ℕ) {ws others : List (List ℕ)} → ws ≡ others → name ∷ decimal page ∷ ws ≡ name ∷ decimal page ∷ others
 behind name page e = ap (λ (t : List (List ℕ)). name ∷ decimal page ∷ t) e
+
+alloc_read : (page : ℕ) (ws : List (List ℕ)) (call : Call) → alloc_of ws ≡ Some call → Named (codes "alloc") page ws call
+unfolding alloc_of
+alloc_read page ws call e =
+    let a = bind_some (kind_at ws) _ call e in
+    let made = ended_is (calls.Alloc a.0.0) call a.0.1 a.2 in
+    let ra = kind_read ws a.0 a.1 in
+    subst (λ (c : Call). Named (codes "alloc") page ws c) made.1 (behind (codes "alloc") page (followed ra made.0), tt)
+
+free_read : (page : ℕ) (ws : List (List ℕ)) (call : Call) → ended calls.Free ws ≡ Some call → Named (codes "free") page ws call
+free_read page ws call e =
+    let made = ended_is calls.Free call ws e in
+    subst (λ (c : Call). Named (codes "free") page ws c) made.1 (behind (codes "free") page made.0, tt)
 
 read_read : (page : ℕ) (ws : List (List ℕ)) (call : Call) → read_of ws ≡ Some call → Named (codes "read") page ws call
 unfolding read_of
@@ -202,17 +238,25 @@ named_read page name ws call e =
     let pins = cond (bytes_eq name (codes "pin")) (ended calls.Pin ws) last in
     let adds = cond (bytes_eq name (codes "add")) (add_of ws) pins in
     let writes = cond (bytes_eq name (codes "write")) (write_of ws) adds in
-    elim (chosen (bytes_eq name (codes "read")) (read_of ws) writes (Some call) e) [
-      | inl h ↦ rw (same_text name (codes "read") h.0) (read_read page ws call h.1)
-      | inr h ↦ elim (chosen (bytes_eq name (codes "write")) (write_of ws) adds (Some call) h.1) [
-        | inl h ↦ rw (same_text name (codes "write") h.0) (write_read page ws call h.1)
-        | inr h ↦ elim (chosen (bytes_eq name (codes "add")) (add_of ws) pins (Some call) h.1) [
-          | inl h ↦ rw (same_text name (codes "add") h.0) (add_read page ws call h.1)
-          | inr h ↦ elim (chosen (bytes_eq name (codes "pin")) (ended calls.Pin ws) last (Some call) h.1) [
-            | inl h ↦ rw (same_text name (codes "pin") h.0) (pin_read page ws call h.1)
-            | inr h ↦ elim (chosen (bytes_eq name (codes "unpin")) (ended calls.Unpin ws) None (Some call) h.1) [
-              | inl h ↦ rw (same_text name (codes "unpin") h.0) (unpin_read page ws call h.1)
-              | inr h ↦ absurd (none-some call h.1)
+    let reads = cond (bytes_eq name (codes "read")) (read_of ws) writes in
+    let frees = cond (bytes_eq name (codes "free")) (ended calls.Free ws) reads in
+    elim (chosen (bytes_eq name (codes "alloc")) (alloc_of ws) frees (Some call) e) [
+      | inl h ↦ rw (same_text name (codes "alloc") h.0) (alloc_read page ws call h.1)
+      | inr h ↦ elim (chosen (bytes_eq name (codes "free")) (ended calls.Free ws) reads (Some call) h.1) [
+        | inl h ↦ rw (same_text name (codes "free") h.0) (free_read page ws call h.1)
+        | inr h ↦ elim (chosen (bytes_eq name (codes "read")) (read_of ws) writes (Some call) h.1) [
+          | inl h ↦ rw (same_text name (codes "read") h.0) (read_read page ws call h.1)
+          | inr h ↦ elim (chosen (bytes_eq name (codes "write")) (write_of ws) adds (Some call) h.1) [
+            | inl h ↦ rw (same_text name (codes "write") h.0) (write_read page ws call h.1)
+            | inr h ↦ elim (chosen (bytes_eq name (codes "add")) (add_of ws) pins (Some call) h.1) [
+              | inl h ↦ rw (same_text name (codes "add") h.0) (add_read page ws call h.1)
+              | inr h ↦ elim (chosen (bytes_eq name (codes "pin")) (ended calls.Pin ws) last (Some call) h.1) [
+                | inl h ↦ rw (same_text name (codes "pin") h.0) (pin_read page ws call h.1)
+                | inr h ↦ elim (chosen (bytes_eq name (codes "unpin")) (ended calls.Unpin ws) None (Some call) h.1) [
+                  | inl h ↦ rw (same_text name (codes "unpin") h.0) (unpin_read page ws call h.1)
+                  | inr h ↦ absurd (none-some call h.1)
+                ]
+              ]
             ]
           ]
         ]
@@ -266,22 +310,28 @@ plain_line_read word rest line e =
     let owners = number_of word >>= λ owner. call_line_of owner rest in
     let draws = cond (bytes_eq word (codes "draw")) (draw_of rest >>= λ draw. Some (DrawLine draw)) owners in
     let pages = cond (bytes_eq word (codes "page")) (page_of rest >>= λ page. Some (PageLine page)) draws in
-    elim (chosen (bytes_eq word (codes "machine")) (machine_of rest >>= λ sizes. Some (MachineLine sizes)) pages (Some line) e) [
+    let onlines = cond (bytes_eq word (codes "online")) (online_kind_of rest >>= λ kind. Some (OnlineLine kind)) pages in
+    elim (chosen (bytes_eq word (codes "machine")) (machine_of rest >>= λ sizes. Some (MachineLine sizes)) onlines (Some line) e) [
       | inl h ↦
           let s = bind_some (machine_of rest) (λ sizes. Some (MachineLine sizes)) line h.1 in
           rw (same_text word (codes "machine") h.0) (subst (λ (l : Line). Spelled (codes "machine" ∷ rest) l) (same_Some (MachineLine s.0) line s.2) (machine_read rest s.0 s.1))
-      | inr h ↦ elim (chosen (bytes_eq word (codes "page")) (page_of rest >>= λ page. Some (PageLine page)) draws (Some line) h.1) [
+      | inr h ↦ elim (chosen (bytes_eq word (codes "online")) (online_kind_of rest >>= λ kind. Some (OnlineLine kind)) pages (Some line) h.1) [
         | inl h ↦
-            let p = bind_some (page_of rest) (λ page. Some (PageLine page)) line h.1 in
-            rw (same_text word (codes "page") h.0) (subst (λ (l : Line). Spelled (codes "page" ∷ rest) l) (same_Some (PageLine p.0) line p.2) (page_read rest p.0 p.1))
-        | inr h ↦ elim (chosen (bytes_eq word (codes "draw")) (draw_of rest >>= λ draw. Some (DrawLine draw)) owners (Some line) h.1) [
+            let k = bind_some (online_kind_of rest) (λ kind. Some (OnlineLine kind)) line h.1 in
+            rw (same_text word (codes "online") h.0) (subst (λ (l : Line). Spelled (codes "online" ∷ rest) l) (same_Some (OnlineLine k.0) line k.2) (online_read rest k.0 k.1))
+        | inr h ↦ elim (chosen (bytes_eq word (codes "page")) (page_of rest >>= λ page. Some (PageLine page)) draws (Some line) h.1) [
           | inl h ↦
-              let d = bind_some (draw_of rest) (λ draw. Some (DrawLine draw)) line h.1 in
-              rw (same_text word (codes "draw") h.0) (subst (λ (l : Line). Spelled (codes "draw" ∷ rest) l) (same_Some (DrawLine d.0) line d.2) (draw_read rest d.0 d.1))
-          | inr h ↦
-              let owner = bind_some (number_of word) (λ owner. call_line_of owner rest) line h.1 in
-              let is = number_is word owner.0 owner.1 in
-              rw is.1 (call_line_read owner.0 rest line is.0 owner.2)
+              let p = bind_some (page_of rest) (λ page. Some (PageLine page)) line h.1 in
+              rw (same_text word (codes "page") h.0) (subst (λ (l : Line). Spelled (codes "page" ∷ rest) l) (same_Some (PageLine p.0) line p.2) (page_read rest p.0 p.1))
+          | inr h ↦ elim (chosen (bytes_eq word (codes "draw")) (draw_of rest >>= λ draw. Some (DrawLine draw)) owners (Some line) h.1) [
+            | inl h ↦
+                let d = bind_some (draw_of rest) (λ draw. Some (DrawLine draw)) line h.1 in
+                rw (same_text word (codes "draw") h.0) (subst (λ (l : Line). Spelled (codes "draw" ∷ rest) l) (same_Some (DrawLine d.0) line d.2) (draw_read rest d.0 d.1))
+            | inr h ↦
+                let owner = bind_some (number_of word) (λ owner. call_line_of owner rest) line h.1 in
+                let is = number_is word owner.0 owner.1 in
+                rw is.1 (call_line_read owner.0 rest line is.0 owner.2)
+          ]
         ]
       ]
     ]
@@ -297,10 +347,10 @@ line_read (word ∷ rest) line e = elim (chosen (bytes_eq word (codes "turns")) 
 
 -- ---- again
 
--- a call that isn't read yet asks for one that comes later
-pub later_call : (owner : ℕ) (count : Option ℕ) (word : List ℕ) (rest : List (List ℕ)) → IsNumber owner → ¬ BeginsWithX word → Contains later_calls word → AsksLater (decimal owner ∷ count_words count ++ word ∷ rest)
-later_call owner None word rest lt nox later = inr ((owner, lt, refl), inr (nox, later))
-later_call owner (Some n) word rest lt nox later = inr ((owner, lt, refl), inl (refl, later))
+online_again : (kind : Kind) → online_kind_of (online_word kind ∷ []) ≡ Some kind
+unfolding online_kind_of
+online_again Movable = refl
+online_again Unmovable = refl
 
 page_again : (page : ℕ) (kind : Kind) (frame : ℕ) → IsNumber page → IsNumber frame → page_of (decimal page ∷ kind_word kind ∷ decimal frame ∷ []) ≡ Some (record { page = record { 0 = page }; kind = kind; frame = record { 0 = frame } })
 unfolding page_of
@@ -326,43 +376,38 @@ count_again None page (calls.Add cell value) h = refl
 count_again None page calls.Pin h = refl
 count_again None page calls.Unpin h = refl
 
--- a call that is read, not one that comes later
-call_again : (page : ℕ) (call : Call) → IsNumber page → HasNumbers call → IsBuilt call → call_of (call_words page call) ≡ Some (page, call)
-unfolding call_of named_call read_of add_of
-call_again page (calls.Alloc kind) p h built = absurd built
-call_again page calls.Free p h built = absurd built
-call_again page (calls.Read first count) p h built = rw (number_again page p, number_again first h.0, number_again count h.1) refl
-call_again page (calls.Write first values) p h built = rw (number_again page p, write_again first values h.0 h.1 h.2 h.3) refl
-call_again page (calls.Add cell value) p h built = rw (number_again page p, number_again cell h.0, number_again value h.1) refl
-call_again page calls.Pin p h built = rw (number_again page p) refl
-call_again page calls.Unpin p h built = rw (number_again page p) refl
+alloc_again : (kind : Kind) → alloc_of (kind_word kind ∷ []) ≡ Some (calls.Alloc kind)
+unfolding alloc_of
+alloc_again Movable = refl
+alloc_again Unmovable = refl
 
-call_line_again : (owner : ℕ) (count : Option ℕ) (page : ℕ) (call : Call) → IfSome count IsNumber → IsNumber page → HasNumbers call → IsBuilt call → call_line_of owner (count_words count ++ call_words page call) ≡ Some (CallLine owner count page call)
+call_again : (page : ℕ) (call : Call) → IsNumber page → HasNumbers call → call_of (call_words page call) ≡ Some (page, call)
+unfolding call_of named_call read_of add_of
+call_again page (calls.Alloc kind) p h = rw (number_again page p, alloc_again kind) refl
+call_again page calls.Free p h = rw (number_again page p) refl
+call_again page (calls.Read first count) p h = rw (number_again page p, number_again first h.0, number_again count h.1) refl
+call_again page (calls.Write first values) p h = rw (number_again page p, write_again first values h.0 h.1 h.2 h.3) refl
+call_again page (calls.Add cell value) p h = rw (number_again page p, number_again cell h.0, number_again value h.1) refl
+call_again page calls.Pin p h = rw (number_again page p) refl
+call_again page calls.Unpin p h = rw (number_again page p) refl
+
+call_line_again : (owner : ℕ) (count : Option ℕ) (page : ℕ) (call : Call) → IfSome count IsNumber → IsNumber page → HasNumbers call → call_line_of owner (count_words count ++ call_words page call) ≡ Some (CallLine owner count page call)
 unfolding call_line_of
-call_line_again owner count page call k p h built = rw (count_again count page call k, call_again page call p h built) refl
+call_line_again owner count page call k p h = rw (count_again count page call k, call_again page call p h) refl
 
 no_name : (n : ℕ) (name : List ℕ) → IsNumber n → number_of name ≡ None → bytes_eq (decimal n) name ≡ false
 no_name n name lt none = false_from_ne_true (bytes_eq (decimal n) name) (λ e. none-some n (sym none ∙ ap number_of (sym (same_text (decimal n) name e)) ∙ number_again n lt))
 
 owner_again : (owner : ℕ) (rest : List (List ℕ)) → IsNumber owner → line_of (decimal owner ∷ rest) ≡ call_line_of owner rest
 unfolding line_of plain_line_of
-owner_again owner rest lt = rw (no_name owner (codes "turns") lt refl, no_name owner (codes "machine") lt refl, no_name owner (codes "page") lt refl, no_name owner (codes "draw") lt refl, number_again owner lt) refl
+owner_again owner rest lt = rw (no_name owner (codes "turns") lt refl, no_name owner (codes "machine") lt refl, no_name owner (codes "online") lt refl, no_name owner (codes "page") lt refl, no_name owner (codes "draw") lt refl, number_again owner lt) refl
 
--- a call whose words aren't those of a later one is read
-pub built : (owner : ℕ) (count : Option ℕ) (page : ℕ) (call : Call) → IsNumber owner → ¬ AsksLater (words_of (CallLine owner count page call)) → IsBuilt call
-built owner count page (calls.Alloc kind) lt now = now (later_call owner count (codes "alloc") (decimal page ∷ kind_word kind ∷ []) lt (λ x. absurd (omega arith)) (one_of later_calls (codes "alloc") refl))
-built owner count page calls.Free lt now = now (later_call owner count (codes "free") (decimal page ∷ []) lt (λ x. absurd (omega arith)) (one_of later_calls (codes "free") refl))
-built owner count page (calls.Read first n) lt now = tt
-built owner count page (calls.Write first values) lt now = tt
-built owner count page (calls.Add cell value) lt now = tt
-built owner count page calls.Pin lt now = tt
-built owner count page calls.Unpin lt now = tt
-
-pub line_again : (line : Line) → Fits line → ¬ AsksLater (words_of line) → line_of (words_of line) ≡ Some line
+pub line_again : (line : Line) → Fits line → line_of (words_of line) ≡ Some line
 unfolding line_of plain_line_of machine_of draw_of
-line_again (MachineLine s) fits now = rw (number_again s.cells fits.0, number_again s.block fits.1.0, number_again s.boot fits.1.1.0, number_again s.managed fits.1.1.1.0, number_again s.plugged fits.1.1.1.1.0, number_again s.pages fits.1.1.1.1.1.0) refl
-line_again (PageLine p) fits now = ap (λ o. o >>= λ page. Some (PageLine page)) (page_again p.page.0 p.kind p.frame.0 fits.0 fits.1)
-line_again (TurnsLine turns) fits now = turns_line_again turns fits.0 fits.1
-line_again (DrawLine d) fits now = rw (number_again d.number fits.0, number_again d.count fits.1) refl
-line_again (CallLine owner count page call) fits now =
-    owner_again owner (count_words count ++ call_words page call) fits.0 ∙ call_line_again owner count page call fits.1 fits.2 fits.3 (built owner count page call fits.0 now)
+line_again (MachineLine s) fits = rw (number_again s.cells fits.0, number_again s.block fits.1.0, number_again s.boot fits.1.1.0, number_again s.managed fits.1.1.1.0, number_again s.plugged fits.1.1.1.1.0, number_again s.pages fits.1.1.1.1.1.0) refl
+line_again (OnlineLine kind) fits = ap (λ o. o >>= λ k. Some (OnlineLine k)) (online_again kind)
+line_again (PageLine p) fits = ap (λ o. o >>= λ page. Some (PageLine page)) (page_again p.page.0 p.kind p.frame.0 fits.0 fits.1)
+line_again (TurnsLine turns) fits = turns_line_again turns fits.0 fits.1
+line_again (DrawLine d) fits = rw (number_again d.number fits.0, number_again d.count fits.1) refl
+line_again (CallLine owner count page call) fits =
+    owner_again owner (count_words count ++ call_words page call) fits.0 ∙ call_line_again owner count page call fits.1 fits.2 fits.3

@@ -1,26 +1,29 @@
 -- A scenario that is read can be run.
-use Rattle.std.proofs.Common.{ℕ, zero, suc, ◌≤◌, Bool, true, false, List, [], ◌∷◌, ◌++◌, length, map, Option, Some, None, Result, Ok, Err, sym, subst, arith, replicate}
-use Rattle.std.specs.Prelude.{IfOk, MatchBool, Contains, nat_eq}
+use Rattle.std.proofs.Common.{ℕ, zero, suc, ◌≤◌, Bool, true, false, List, [], ◌∷◌, ◌++◌, length, map, Option, Some, None, Result, Ok, Err, refl, sym, subst, arith, replicate}
+use Rattle.std.specs.Prelude.{◌≡◌, IfOk, MatchBool, Contains, nat_eq}
+use Rattle.std.specs.Option.{unwrap_or}
 use Rattle.std.specs.List.{AllByRecursion, IsDistinct, list_any}
 use Rattle.std.proofs.lemmas.Bool.{false_from_ne_true}
 use Rattle.std.proofs.lemmas.Cmp.{nat_eq_equiv}
 use Rattle.std.proofs.lemmas.List.{map_push, length-replicate}
 use Rattle.std.proofs.lemmas.Map.Keys.{IsDistinct-push}
 use Rattle.std.specs.Str.Lines.{lines}
+use Rattle.evac_model.specs.declared.names.Kind.{Kind}
+use Rattle.evac_model.specs.declared.names.Kind.TheVariants.{Movable, Unmovable}
 use Rattle.evac_model.specs.declared.names.PageNo.{PageNo}
 use Rattle.evac_model.specs.declared.call.Call.{Call}
 use Rattle.evac_model.specs.declared.scenario.Scenario.{Scenario}
+use Rattle.evac_model.specs.declared.scenario.StartPage.{StartPage}
 use Rattle.evac_model.specs.Geometry.{Sizes}
+use Rattle.evac_model.specs.FreeRuns.{fits}
 use Rattle.evac_model.specs.StartPages.{AreStartPages, IsStartPage}
 use Rattle.evac_model.specs.Turns.{IsTurn}
-use Rattle.evac_model.specs.ScenarioLines.{Line, MachineLine, PageLine, TurnsLine, DrawLine, CallLine, times, turns_of, AsksLater}
-use Rattle.evac_model.specs.ScenarioGrammar.{Reads, Accepts, Leads, is_ignored, after_line, with_calls, IsScenarioText}
+use Rattle.evac_model.specs.ScenarioLines.{Line, MachineLine, OnlineLine, PageLine, TurnsLine, DrawLine, CallLine, times, turns_of}
+use Rattle.evac_model.specs.ScenarioGrammar.{Accepts, Leads, online_of, is_ignored, after_line, with_calls, IsScenarioText}
 use Rattle.scenario.specs.declared.error.ScenarioError.{ScenarioError}
 use Rattle.scenario.specs.Outcomes.{IsOutcome}
-use Rattle.evac_model.specs.Scenarios.{IsRunnable, IsOwnerCall, IsBuilt}
-use Rattle.scenario.proofs.Readings.{built}
+use Rattle.evac_model.specs.Scenarios.{IsRunnable, IsOwnerCall}
 use Rattle.scenario.proofs.Scripts.{call_count-with_calls}
-use Rattle.scenario.proofs.Spellings.{spelled_words}
 use Rattle.scenario.proofs.Tables.{Contains-from_any}
 use Rattle.scenario.proofs.TurnLists.{turn_count-both}
 
@@ -54,10 +57,23 @@ few_scripts (s ∷ scripts) (suc zero) most calls h o = h
 few_scripts (s ∷ scripts) (suc (suc k)) zero calls h o = absurd (omega arith)
 few_scripts (s ∷ scripts) (suc (suc k)) (suc most) calls h o = omega (arith, few_scripts scripts (suc k) most calls (omega arith) (omega arith))
 
-call_built : (text : List ℕ) (owner : ℕ) (count : Option ℕ) (page : ℕ) (call : Call) → Reads text (CallLine owner count page call) → IsBuilt call
-call_built text owner count page call r =
-    let line = CallLine owner count page call in
-    built owner count page call r.spelled.fits.0 (subst (λ (ws : List (List ℕ)). ¬ AsksLater ws) (spelled_words text line r.spelled) r.built)
+-- the frame takes the page, where managed blocks are online for that kind
+abbrev Fitting : Sizes → Kind → StartPage → Type 0
+Fitting s online p = fits s online p.kind p.frame.0 ≡ true
+
+-- what fits where managed blocks are online for movable pages alone fits whatever they are online for
+fits_too : (s : Sizes) (online kind : Kind) (frame : ℕ) → fits s Movable kind frame ≡ true → fits s online kind frame ≡ true
+fits_too s Movable kind frame e = e
+fits_too s Unmovable Movable frame e = refl
+fits_too s Unmovable Unmovable frame e = refl
+
+fitting_too : (s : Sizes) (online : Kind) (start : List StartPage) → AllByRecursion (Fitting s Movable) start → AllByRecursion (Fitting s online) start
+fitting_too s online [] h = tt
+fitting_too s online (p ∷ start) h = (fits_too s online p.kind p.frame.0 h.0, fitting_too s online start h.1)
+
+-- the same of the pages before the line that says it
+fitting_behind : (s : Sizes) (before : Option Kind) (online : Kind) (start : List StartPage) → before ≡ None → AllByRecursion (Fitting s (unwrap_or before Movable)) start → AllByRecursion (Fitting s online) start
+fitting_behind s before online start none h = fitting_too s online start (subst (λ (o : Option Kind). AllByRecursion (Fitting s (unwrap_or o Movable)) start) none h)
 
 -- what is there can be run
 abbrev Runs : Option Scenario → Type 0
@@ -69,21 +85,45 @@ unfolding IsDistinct
 no_pages sizes = record { each = tt; pages = tt; frames = tt }
 
 runs_on : (s : Option Scenario) (text : List ℕ) (line : Line) → Accepts s text line → Runs s → Runs (after_line s line)
-runs_on None text (MachineLine sizes) a r = record { limits = a.range; start = no_pages sizes; named = tt; turns = omega arith; drawn = tt; owners = omega arith; calls = tt; count = omega arith }
+runs_on None text (MachineLine sizes) a r = record { limits = a.range; start = no_pages sizes; kinds = tt; named = tt; turns = omega arith; drawn = tt; owners = omega arith; calls = tt; count = omega arith }
+runs_on None text (OnlineLine kind) a r = tt
 runs_on None text (PageLine p) a r = tt
 runs_on None text (TurnsLine turns) a r = tt
 runs_on None text (DrawLine draw) a r = tt
 runs_on None text (CallLine owner count page call) a r = tt
 runs_on (Some s) text (MachineLine sizes) a r = r
+runs_on (Some s) text (OnlineLine kind) a r =
+    record {
+      limits = r.limits;
+      start = r.start;
+      kinds = fitting_behind s.geometry s.online kind s.start a.order r.kinds;
+      named = r.named;
+      turns = r.turns;
+      drawn = r.drawn;
+      owners = r.owners;
+      calls = r.calls;
+      count = r.count;
+    }
 runs_on (Some s) text (PageLine p) a r =
-    let each = each_push (IsStartPage s.geometry) s.start p r.start.each (record { page = a.range.0; frame = a.page.there; kind = a.page.kind }) in
+    let each = each_push (IsStartPage s.geometry) s.start p r.start.each (record { page = a.range.0; frame = a.page.there }) in
     let pages = distinct_push (map (λ q. q.page.0) s.start) p.page.0 r.start.pages a.page.page in
     let frames = distinct_push (map (λ q. q.frame.0) s.start) p.frame.0 r.start.frames a.page.frame in
-    record { limits = r.limits; start = record { each = each; pages = rw map_push pages; frames = rw map_push frames }; named = r.named; turns = r.turns; drawn = r.drawn; owners = r.owners; calls = r.calls; count = r.count }
+    record {
+      limits = r.limits;
+      start = record { each = each; pages = rw map_push pages; frames = rw map_push frames };
+      kinds = each_push (Fitting s.geometry (online_of s)) s.start p r.kinds a.page.kind;
+      named = r.named;
+      turns = r.turns;
+      drawn = r.drawn;
+      owners = r.owners;
+      calls = r.calls;
+      count = r.count;
+    }
 runs_on (Some s) text (TurnsLine turns) a r =
     record {
       limits = r.limits;
       start = r.start;
+      kinds = r.kinds;
       named = each_of_both IsTurn s.named (turns_of turns) r.named a.range;
       turns = omega (arith, turn_count-both s.named (turns_of turns), a.count);
       drawn = r.drawn;
@@ -95,6 +135,7 @@ runs_on (Some s) text (DrawLine draw) a r =
     record {
       limits = r.limits;
       start = r.start;
+      kinds = r.kinds;
       named = r.named;
       turns = r.turns;
       drawn = record { number = a.reads.spelled.fits.0; most = a.range };
@@ -104,11 +145,12 @@ runs_on (Some s) text (DrawLine draw) a r =
     }
 runs_on (Some s) text (CallLine owner count page call) a r =
     let one : PageNo × Call = (record { 0 = page }, call) in
-    let own_call : IsOwnerCall s.geometry one = record { page = a.range.page_most; call = a.range.cells; built = call_built text owner count page call a.reads; numbers = a.reads.spelled.fits.3 } in
+    let own_call : IsOwnerCall s.geometry one = record { page = a.range.page_most; call = a.range.cells; numbers = a.reads.spelled.fits.3 } in
     let more = replicate (times count) one in
     record {
       limits = r.limits;
       start = r.start;
+      kinds = r.kinds;
       named = r.named;
       turns = r.turns;
       drawn = r.drawn;

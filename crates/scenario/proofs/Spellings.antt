@@ -10,8 +10,8 @@ use Rattle.evac_model.specs.declared.names.Kind.TheVariants.{Movable, Unmovable}
 use Rattle.evac_model.specs.declared.call.Call.{Call}
 use Rattle.evac_model.specs.declared.call.Call.TheVariants.{Alloc, Free, Read, Write, Add, Pin, Unpin}
 use Rattle.evac_model.specs.declared.scenario.Actor.{Actor}
-use Rattle.evac_model.specs.Spelling.{kind_word, call_words, actor_word, turn_word, count_words, spaced}
-use Rattle.evac_model.specs.ScenarioLines.{Line, NamedTurn, MachineLine, PageLine, TurnsLine, DrawLine, CallLine, words_of, IsNumber, HasNumbers, HasActorNumber, HasTurnNumbers, Fits, Spells, words}
+use Rattle.evac_model.specs.Spelling.{kind_word, online_word, call_words, actor_word, turn_word, count_words, spaced}
+use Rattle.evac_model.specs.ScenarioLines.{Line, NamedTurn, MachineLine, OnlineLine, PageLine, TurnsLine, DrawLine, CallLine, words_of, IsNumber, HasNumbers, HasActorNumber, HasTurnNumbers, Fits, Spells, words}
 use Rattle.scenario.proofs.Marks.{HasNo, has_no, joined, number_has_no, space_no_digit, actor_has_no_space}
 
 -- no byte of the word is a space
@@ -38,6 +38,10 @@ kind_has_none : (kind : Kind) → HasNoSpace (kind_word kind)
 kind_has_none Movable = no_space (kind_word Movable) refl
 kind_has_none Unmovable = no_space (kind_word Unmovable) refl
 
+online_has_none : (kind : Kind) → HasNoSpace (online_word kind)
+online_has_none Movable = no_space (online_word Movable) refl
+online_has_none Unmovable = no_space (online_word Unmovable) refl
+
 call_has_none : (page : ℕ) (call : Call) → IsNumber page → HasNumbers call → AllByRecursion HasNoSpace (call_words page call)
 call_has_none page (Alloc kind) p h = (no_space (codes "alloc") refl, (decimal_has_none page p, (kind_has_none kind, tt)))
 call_has_none page Free p h = (no_space (codes "free") refl, (decimal_has_none page p, tt))
@@ -61,6 +65,7 @@ counted_has_none (Some n) words h others = (joined 32 (codes "x") (decimal n) (n
 
 words-words_of : (line : Line) → Fits line → words (spaced (words_of line)) ≡ words_of line
 words-words_of (MachineLine s) h = words-spaced (codes "machine") (map decimal (s.cells ∷ s.block ∷ s.boot ∷ s.managed ∷ s.plugged ∷ s.pages ∷ [])) (no_space (codes "machine") refl) (decimals_have_none (s.cells ∷ s.block ∷ s.boot ∷ s.managed ∷ s.plugged ∷ s.pages ∷ []) h)
+words-words_of (OnlineLine kind) h = words-spaced (codes "online") (online_word kind ∷ []) (no_space (codes "online") refl) (online_has_none kind, tt)
 words-words_of (PageLine p) h = words-spaced (codes "page") (decimal p.page.0 ∷ kind_word p.kind ∷ decimal p.frame.0 ∷ []) (no_space (codes "page") refl) (decimal_has_none p.page.0 h.0, (kind_has_none p.kind, (decimal_has_none p.frame.0 h.1, tt)))
 words-words_of (TurnsLine turns) h = words-spaced (codes "turns") (map (λ t. turn_word t.actor t.count) turns) (no_space (codes "turns") refl) (turns_have_none turns h.1)
 words-words_of (DrawLine d) h = words-spaced (codes "draw") (decimal d.number ∷ decimal d.count ∷ []) (no_space (codes "draw") refl) (decimal_has_none d.number h.0, (decimal_has_none d.count h.1, tt))

@@ -2,7 +2,7 @@
 use Rattle.std.proofs.Common.{◌≡◌, ℕ, List, Some, None, sym, ap, ◌∙◌, subst}
 use Rattle.std.proofs.lemmas.Option.{none-some, same_Some}
 use Rattle.evac_model.specs.declared.scenario.LineCause.TheVariants.{Word, Later, Form}
-use Rattle.evac_model.specs.ScenarioLines.{Line, words, Spells, AsksLater}
+use Rattle.evac_model.specs.ScenarioLines.{Line, words, Spells}
 use Rattle.evac_model.specs.ScenarioGrammar.{Reads}
 use Rattle.scenario.specs.declared.ask.Ask.TheVariants.{Unknown, Later as LaterAsk, Read}
 use Rattle.scenario.specs.Asking.{ask_of_words}
@@ -12,13 +12,11 @@ use Rattle.scenario.proofs.Askings.{Says, words_say}
 use Rattle.scenario.proofs.Readings.{line_read, line_again}
 use Rattle.scenario.proofs.Spellings.{spelled_words, spelled_by_words}
 
-pub reads_again : (text : List ℕ) (line : Line) → ¬ AsksLater (words text) → Spells text line → line_of (words text) ≡ Some line
-reads_again text line built s =
-    let e = spelled_words text line s in
-    ap line_of e ∙ line_again line s.fits (subst (λ (ws : List (List ℕ)). ¬ AsksLater ws) e built)
+pub reads_again : (text : List ℕ) (line : Line) → Spells text line → line_of (words text) ≡ Some line
+reads_again text line s = ap line_of (spelled_words text line s) ∙ line_again line s.fits
 
 pub reads_one : (text : List ℕ) (a b : Line) → Reads text a → Reads text b → a ≡ b
-reads_one text a b x y = same_Some a b (sym (reads_again text a x.built x.spelled) ∙ reads_again text b y.built y.spelled)
+reads_one text a b x y = same_Some a b (sym (reads_again text a x.spelled) ∙ reads_again text b y.spelled)
 
 pub read_is : (text : List ℕ) (line : Line) → ask_of_words (words text) ≡ Read → line_of (words text) ≡ Some line → Reads text line
 read_is text line asked e =
@@ -29,7 +27,7 @@ read_is text line asked e =
 pub form_is : (text : List ℕ) → ask_of_words (words text) ≡ Read → line_of (words text) ≡ None → IsUnread text Form
 form_is text asked e =
     let says = subst (Says (words text)) asked (words_say (words text)) in
-    (says.0, says.1, λ line s. none-some line (sym e ∙ reads_again text line says.1 s))
+    (says.0, says.1, λ line s. none-some line (sym e ∙ reads_again text line s))
 
 pub word_is : (text : List ℕ) → ask_of_words (words text) ≡ Unknown → IsUnread text Word
 word_is text asked = subst (Says (words text)) asked (words_say (words text))

@@ -1,7 +1,7 @@
 -- What the words of a line ask for.
 use Rattle.std.specs.Prelude.{ℕ, ◌||◌, ◌==◌, List, [], ◌∷◌, length, codes, if◌then◌else◌, is_some}
 use Rattle.std.specs.Str.{bytes_eq}
-use Rattle.evac_model.specs.ScenarioLines.{line_names, later_lines, call_names, later_calls, command_names}
+use Rattle.evac_model.specs.ScenarioLines.{line_names, later_lines, call_names, command_names}
 use Rattle.scenario.specs.declared.ask.Ask.{Ask}
 use Rattle.scenario.specs.declared.ask.Ask.TheVariants.{Unknown, Later, Read}
 use Rattle.scenario.specs.Numbers.{number_of}
@@ -9,7 +9,7 @@ use Rattle.scenario.specs.Words.{is_one_of}
 
 -- by a call's word
 abbrev pub ask_of_call : List ℕ → Ask
-ask_of_call word = if is_one_of later_calls word then Later else if length word == 0 || is_one_of call_names word then Read else Unknown
+ask_of_call word = if length word == 0 || is_one_of call_names word then Read else Unknown
 
 -- behind an owner's number and a count of calls
 abbrev pub ask_behind_count : List (List ℕ) → Ask

@@ -21,7 +21,7 @@ use Rattle.scenario.specs.declared.turn_line.LineTurn.{LineTurn}
 use Rattle.scenario.specs.declared.turn_line.TurnsLine.{TurnsLine}
 use Rattle.scenario.specs.declared.call_line.CallLine.{CallLine}
 use Rattle.scenario.specs.declared.call_line.LineCall.{LineCall}
-use Rattle.scenario.specs.declared.call_line.LineCall.TheVariants.{Read, Write, Add, Pin, Unpin}
+use Rattle.scenario.specs.declared.call_line.LineCall.TheVariants.{Alloc, Free, Read, Write, Add, Pin, Unpin}
 use Rattle.scenario.specs.declared.line.Line.{Line}
 use Rattle.scenario.specs.declared.line.Line.TheVariants as kept
 use Rattle.scenario.specs.Numbers.{number_of}
@@ -36,6 +36,9 @@ page_in l = record { page = record { 0 = l.page }; kind = l.kind; frame = record
 
 abbrev pub machine_in : MachineLine → grammar.Line
 machine_in l = grammar.MachineLine (sizes_in l)
+
+abbrev pub online_line_in : Kind → grammar.Line
+online_line_in kind = grammar.OnlineLine kind
 
 abbrev pub page_line_in : PageLine → grammar.Line
 page_line_in l = grammar.PageLine (page_in l)
@@ -58,6 +61,8 @@ abbrev pub turns_in : TurnsLine → grammar.Line
 turns_in l = grammar.TurnsLine (map turn_in l.turns.items)
 
 abbrev pub plain_call : LineCall → Call
+plain_call (Alloc kind) = calls.Alloc kind
+plain_call Free = calls.Free
 plain_call (Read first count) = calls.Read first count
 plain_call (Write first values) = calls.Write first values
 plain_call (Add cell value) = calls.Add cell value
@@ -69,6 +74,7 @@ call_in l = grammar.CallLine l.owner l.count l.page (plain_call l.call)
 
 abbrev pub line_in : Line → grammar.Line
 line_in (kept.Machine l) = machine_in l
+line_in (kept.Online kind) = online_line_in kind
 line_in (kept.Page l) = page_line_in l
 line_in (kept.Turns l) = turns_in l
 line_in (kept.Draw l) = draw_line_in l
@@ -102,6 +108,16 @@ kind_at (word ∷ rest) = do
   kind ← kind_of word
   Some (kind, rest)
 
+-- what managed blocks are online for
+abbrev pub online_of_word : List ℕ → Option Kind
+online_of_word word = if bytes_eq word (codes "movable") then Some Movable else if bytes_eq word (codes "kernel") then Some Unmovable else None
+
+abbrev pub online_at : List (List ℕ) → Option (Kind × List (List ℕ))
+online_at [] = None
+online_at (word ∷ rest) = do
+  kind ← online_of_word word
+  Some (kind, rest)
+
 -- no word is left
 abbrev pub ended : {A : Type 0} → A → List (List ℕ) → Option A
 ended x rest = if length rest == 0 then Some x else None
@@ -115,6 +131,11 @@ machine_of words = do
   plugged ← number_at managed.1
   pages ← number_at plugged.1
   ended (record { cells = cells.0; block = block.0; boot = boot.0; managed = managed.0; plugged = plugged.0; pages = pages.0 }) pages.1
+
+unfoldable pub online_kind_of : List (List ℕ) → Option Kind
+online_kind_of words = do
+  online ← online_at words
+  ended online.0 online.1
 
 unfoldable pub page_of : List (List ℕ) → Option StartPage
 page_of words = do
@@ -186,6 +207,11 @@ values_of (suc room) (word ∷ rest) = do
   more ← values_of room rest
   Some (n ∷ more)
 
+unfoldable pub alloc_of : List (List ℕ) → Option Call
+alloc_of words = do
+  kind ← kind_at words
+  ended (calls.Alloc kind.0) kind.1
+
 unfoldable pub read_of : List (List ℕ) → Option Call
 read_of words = do
   first ← number_at words
@@ -208,7 +234,9 @@ add_of words = do
 -- the call of a name, with the words behind its page
 unfoldable pub named_call : List ℕ → List (List ℕ) → Option Call
 named_call name words =
-    if bytes_eq name (codes "read") then read_of words
+    if bytes_eq name (codes "alloc") then alloc_of words
+    else if bytes_eq name (codes "free") then ended calls.Free words
+    else if bytes_eq name (codes "read") then read_of words
     else if bytes_eq name (codes "write") then write_of words
     else if bytes_eq name (codes "add") then add_of words
     else if bytes_eq name (codes "pin") then ended calls.Pin words
@@ -235,6 +263,7 @@ call_line_of owner words = do
 unfoldable pub plain_line_of : List ℕ → List (List ℕ) → Option grammar.Line
 plain_line_of word rest =
     if bytes_eq word (codes "machine") then (machine_of rest >>= λ sizes. Some (grammar.MachineLine sizes))
+    else if bytes_eq word (codes "online") then (online_kind_of rest >>= λ kind. Some (grammar.OnlineLine kind))
     else if bytes_eq word (codes "page") then (page_of rest >>= λ page. Some (grammar.PageLine page))
     else if bytes_eq word (codes "draw") then (draw_of rest >>= λ draw. Some (grammar.DrawLine draw))
     else (number_of word >>= λ owner. call_line_of owner rest)

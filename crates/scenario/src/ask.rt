@@ -1,7 +1,7 @@
 //! What a line asks for, by its first words.
 
 ghost use Rattle.std.specs.Prelude.{◌≡◌};
-ghost use Rattle.evac_model.specs.ScenarioLines.{words, line_names, later_lines, call_names, later_calls, command_names};
+ghost use Rattle.evac_model.specs.ScenarioLines.{words, line_names, later_lines, call_names, command_names};
 ghost use Rattle.scenario.specs.Words.{words_left, is_one_of};
 ghost use Rattle.scenario.specs.Asking.{ask_of_words, ask_of_owner, ask_behind_count, ask_of_call, ask_of_host};
 
@@ -13,7 +13,7 @@ use crate::words::split_word;
 pub enum Ask {
     /// Scenarios have no such line, call or command.
     Unknown,
-    /// Scenarios have it, and it isn't read yet.
+    /// Scenarios have the line, and it isn't read yet.
     Later,
     /// It is read, if the line has its form.
     Read,
@@ -34,7 +34,7 @@ fn is_line_name(word: &[u8]) -> bool
 fn is_later_line(word: &[u8]) -> bool
     ensures { result ≡ is_one_of later_lines word.now }
 {
-    word == b"online".as_slice() || word == b"fail".as_slice() || word == b"host".as_slice()
+    word == b"fail".as_slice() || word == b"host".as_slice()
 }
 
 fn is_call_name(word: &[u8]) -> bool
@@ -47,12 +47,6 @@ fn is_call_name(word: &[u8]) -> bool
         || word == b"add".as_slice()
         || word == b"pin".as_slice()
         || word == b"unpin".as_slice()
-}
-
-fn is_later_call(word: &[u8]) -> bool
-    ensures { result ≡ is_one_of later_calls word.now }
-{
-    word == b"alloc".as_slice() || word == b"free".as_slice()
 }
 
 fn is_command_name(word: &[u8]) -> bool
@@ -116,9 +110,6 @@ fn ask_behind_count(rest: Option<&[u8]>) -> Ask
 fn ask_of_call(word: &[u8]) -> Ask
     ensures { result ≡ ask_of_call word.now }
 {
-    if is_later_call(word) {
-        return Ask::Later;
-    }
     if word.is_empty() || is_call_name(word) {
         return Ask::Read;
     }

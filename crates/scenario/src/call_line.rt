@@ -2,16 +2,18 @@
 
 ghost use Rattle.std.specs.Prelude.{◌≡◌};
 ghost use Rattle.scenario.specs.Words.{words_left};
-ghost use Rattle.scenario.specs.Reading.{Gives, plain_call, call_in, count_at, ended, read_of, write_of, add_of, named_call, call_of, call_line_of, values_of};
+ghost use Rattle.scenario.specs.Reading.{Gives, plain_call, call_in, count_at, ended, alloc_of, read_of, write_of, add_of, named_call, call_of, call_line_of, values_of};
 
-use crate::fields::number_at;
+use crate::fields::{kind_at, number_at};
 use crate::number::number;
 use crate::words::{is_ended, split_word};
-use evac_model::Cells;
+use evac_model::{Cells, Kind};
 
 /// The calls that are read.
 #[derive(Clone, Copy, Debug, PartialEq, Eq)]
 pub enum LineCall {
+    Alloc { kind: Kind },
+    Free,
     Read { first: u64, count: u64 },
     Write { first: u64, values: Cells },
     Add { cell: u64, value: u64 },
@@ -77,6 +79,12 @@ fn call_of(rest: Option<&[u8]>) -> Option<(u64, LineCall)>
 fn named_call(name: &[u8], rest: Option<&[u8]>) -> Option<LineCall>
     ensures { Gives plain_call result (named_call name.now (words_left rest.entry)) }
 {
+    if name == b"alloc".as_slice() {
+        return alloc_of(rest);
+    }
+    if name == b"free".as_slice() {
+        return whole(LineCall::Free, rest);
+    }
     if name == b"read".as_slice() {
         return read_of(rest);
     }
@@ -103,6 +111,14 @@ fn whole(call: LineCall, rest: Option<&[u8]>) -> Option<LineCall>
         return None;
     }
     Some(call)
+}
+
+#[tactic(auto, unfolding(crate::specs::Reading::alloc_of))]
+fn alloc_of(rest: Option<&[u8]>) -> Option<LineCall>
+    ensures { Gives plain_call result (alloc_of (words_left rest.entry)) }
+{
+    let (kind, rest) = kind_at(rest)?;
+    whole(LineCall::Alloc { kind }, rest)
 }
 
 #[tactic(auto, unfolding(crate::specs::Reading::read_of))]

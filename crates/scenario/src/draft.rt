@@ -2,7 +2,7 @@
 
 ghost use Rattle.std.specs.Prelude.{◌≡◌, ◌≤◌, ◌^◌, ◌↔◌, IsTrue, MatchOption, OnOk, OnErr, replicate};
 ghost use Rattle.evac_model.specs.Geometry.{IsWithinLimits, IsThereAtStart};
-ghost use Rattle.evac_model.specs.StartPages.{Takes};
+ghost use Rattle.evac_model.specs.FreeRuns.{fits};
 ghost use Rattle.evac_model.specs.ScenarioGrammar.{with_calls, call_count};
 ghost use Rattle.scenario.specs.Reading.{sizes_in};
 ghost use Rattle.scenario.specs.Judging.{scripts};
@@ -26,6 +26,7 @@ use std::marker::Model;
 #[derive(Drop)]
 pub struct Draft {
     geometry: Geometry,
+    online: Option<Kind>,
     start: Vec<StartPage>,
     named_pages: NumberTable,
     named_frames: NumberTable,
@@ -43,14 +44,13 @@ fn is_there(geometry: &Geometry, frame: u64) -> bool
     frame < (geometry.boot() as u64 + geometry.plugged() as u64) * geometry.block() as u64
 }
 
-/// Whether a frame takes pages of a kind.
-fn takes(geometry: &Geometry, kind: Kind, frame: u64) -> bool
-    ensures { IsTrue result ↔ Takes geometry.now kind frame }
+/// Whether a frame takes pages of a kind, where managed blocks are online for `online`.
+fn takes(geometry: &Geometry, online: Kind, kind: Kind, frame: u64) -> bool
+    ensures { result ≡ fits geometry.now online kind frame }
 {
-    match kind {
-        Kind::Movable => true,
-        Kind::Unmovable => frame < geometry.boot() as u64 * geometry.block() as u64,
-    }
+    kind == Kind::Movable
+        || online != Kind::Movable
+        || frame < geometry.boot() as u64 * geometry.block() as u64
 }
 
 /// The machine of these sizes, if they are within the limits.
@@ -102,7 +102,7 @@ impl Model for Draft {
 impl Draft {
     ghost use Rattle.std.specs.Prelude.{◌≡◌, ◌↔◌, IsTrue, IfOk, MatchResult, None, Some};
     ghost use Rattle.evac_model.specs.ScenarioGrammar.{IsFreeFor};
-    ghost use Rattle.scenario.specs.Reading.{page_in, machine_in, page_line_in, turns_in, draw_line_in, call_in};
+    ghost use Rattle.scenario.specs.Reading.{page_in, machine_in, online_line_in, page_line_in, turns_in, draw_line_in, call_in};
     ghost use Rattle.scenario.specs.Judging.{Adds, RefusesReadLine};
 
     /// The scenario of a machine line alone.
@@ -114,6 +114,7 @@ impl Draft {
         };
         Ok(Draft {
             geometry,
+            online: None,
             start: Vec::new(alloc),
             named_pages: NumberTable::new(alloc, geometry.pages() as usize)?,
             named_frames: NumberTable::new(alloc, geometry.frames() as usize)?,
@@ -123,6 +124,17 @@ impl Draft {
             owners: Vec::new(alloc),
             calls: 0,
         })
+    }
+
+    /// Takes what managed blocks are online for, from here on.
+    pub fn add_online(&mut self, online: Kind) -> Result<(), Refusal>
+        ensures { MatchResult result (λ _. Adds (Some self.old) (online_line_in online) self.new) (RefusesReadLine (Some self.old) (online_line_in online)) }
+    {
+        if self.online.is_some() {
+            return Err(Refusal::Cause(LineCause::Order));
+        }
+        self.online = Some(online);
+        Ok(())
     }
 
     /// Adds a page of the start.
@@ -157,7 +169,8 @@ impl Draft {
         if self.named_frames.contains(line.frame as usize) {
             return false;
         }
-        is_there(&self.geometry, line.frame) && takes(&self.geometry, line.kind, line.frame)
+        let online = self.online.unwrap_or(Kind::Movable);
+        is_there(&self.geometry, line.frame) && takes(&self.geometry, online, line.kind, line.frame)
     }
 
     /// Adds named turns.
@@ -225,6 +238,7 @@ impl Draft {
     {
         let Draft {
             geometry,
+            online,
             start,
             named_pages: _,
             named_frames: _,
@@ -240,6 +254,7 @@ impl Draft {
             .collect(alloc)?;
         Ok(Scenario {
             geometry,
+            online,
             start: Listed::from_vec(start),
             named: Listed::from_vec(named),
             drawn,

@@ -2,7 +2,7 @@
 
 ghost use Rattle.std.specs.Prelude.{◌≡◌};
 ghost use Rattle.scenario.specs.Words.{words_left};
-ghost use Rattle.scenario.specs.Reading.{Gives, number_at, kind_at};
+ghost use Rattle.scenario.specs.Reading.{Gives, number_at, kind_at, online_at};
 
 use crate::number::number;
 use crate::words::split_word;
@@ -26,6 +26,20 @@ pub fn kind_at(rest: Option<&[u8]>) -> Option<(Kind, Option<&[u8]>)>
         return Some((Kind::Movable, rest));
     }
     if word == b"unmovable".as_slice() {
+        return Some((Kind::Unmovable, rest));
+    }
+    None
+}
+
+/// What managed blocks are online for, where that comes next, and what is behind it.
+pub fn online_at(rest: Option<&[u8]>) -> Option<(Kind, Option<&[u8]>)>
+    ensures { Gives (λ x. (x.0, words_left x.1)) result (online_at (words_left rest.entry)) }
+{
+    let (word, rest) = split_word(rest?);
+    if word == b"movable".as_slice() {
+        return Some((Kind::Movable, rest));
+    }
+    if word == b"kernel".as_slice() {
         return Some((Kind::Unmovable, rest));
     }
     None

@@ -1,5 +1,5 @@
-//! Reads scenarios: the machine, the pages of its start, the turns that are named or drawn, and a
-//! script for each owner.
+//! Reads scenarios: the machine, what its managed blocks are online for, the pages of its start, the
+//! turns that are named or drawn, and a script for each owner.
 #![tactic(auto)]
 
 mod ask;

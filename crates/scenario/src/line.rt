@@ -3,10 +3,10 @@
 ghost use Rattle.std.specs.Prelude.{◌≡◌, IfOk};
 ghost use Rattle.evac_model.specs.ScenarioLines.{words};
 ghost use Rattle.scenario.specs.Words.{words_left};
-ghost use Rattle.scenario.specs.Reading.{Gives, sizes_in, page_in, draw_in, line_in, machine_of, page_of, draw_of, plain_line_of, line_of};
+ghost use Rattle.scenario.specs.Reading.{Gives, sizes_in, page_in, draw_in, line_in, machine_of, online_kind_of, page_of, draw_of, plain_line_of, line_of};
 
 use crate::call_line::{CallLine, call_line_of};
-use crate::fields::{kind_at, number_at};
+use crate::fields::{kind_at, number_at, online_at};
 use crate::number::number;
 use crate::turn_line::{TurnsLine, turns_line_of};
 use crate::words::{is_ended, split_word};
@@ -43,6 +43,8 @@ pub struct DrawLine {
 #[derive(Debug, Drop)]
 pub enum Line {
     Machine(MachineLine),
+    /// What managed blocks are online for.
+    Online(Kind),
     Page(PageLine),
     Turns(TurnsLine),
     Draw(DrawLine),
@@ -71,6 +73,9 @@ fn plain_line_of(word: &[u8], rest: Option<&[u8]>) -> Option<Line>
 {
     if word == b"machine".as_slice() {
         return Some(Line::Machine(machine_of(rest)?));
+    }
+    if word == b"online".as_slice() {
+        return Some(Line::Online(online_kind_of(rest)?));
     }
     if word == b"page".as_slice() {
         return Some(Line::Page(page_of(rest)?));
@@ -103,6 +108,17 @@ fn machine_of(rest: Option<&[u8]>) -> Option<MachineLine>
         plugged,
         pages,
     })
+}
+
+#[tactic(auto, unfolding(crate::specs::Reading::online_kind_of))]
+fn online_kind_of(rest: Option<&[u8]>) -> Option<Kind>
+    ensures { Gives (λ kind. kind) result (online_kind_of (words_left rest.entry)) }
+{
+    let (online, rest) = online_at(rest)?;
+    if !is_ended(rest) {
+        return None;
+    }
+    Some(online)
 }
 
 #[tactic(auto, unfolding(crate::specs::Reading::page_of))]

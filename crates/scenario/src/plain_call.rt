@@ -14,6 +14,8 @@ fn call_up_to(most: u32, call: LineCall) -> Option<Call>
 {
     let most = most as u64;
     match call {
+        LineCall::Alloc { kind } => Some(Call::Alloc { kind }),
+        LineCall::Free => Some(Call::Free),
         LineCall::Read { first, count } if first <= most && count <= most => Some(Call::Read {
             first: first as u32,
             count: count as u32,

@@ -42,12 +42,16 @@ fn with_line(alloc: Global, draft: Option<Draft>, line: Line) -> Result<Draft, R
     match draft {
         None => match line {
             Line::Machine(sizes) => Draft::new(alloc, sizes),
-            Line::Page(_) | Line::Turns(_) | Line::Draw(_) | Line::Call(_) => {
+            Line::Online(_) | Line::Page(_) | Line::Turns(_) | Line::Draw(_) | Line::Call(_) => {
                 Err(Refusal::Cause(LineCause::Order))
             }
         },
         Some(mut draft) => match line {
             Line::Machine(_) => Err(Refusal::Cause(LineCause::Order)),
+            Line::Online(online) => {
+                draft.add_online(online)?;
+                Ok(draft)
+            }
             Line::Page(page) => {
                 draft.add_page(page)?;
                 Ok(draft)

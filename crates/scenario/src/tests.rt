@@ -6,7 +6,7 @@ use std::test::*;
 const MACHINE: &str = "machine 2 4 2 4 4 8\n";
 
 /// Texts behind the machine line, and the cause by which their first line is refused.
-const SECOND_LINES: [(&str, LineCause); 31] = [
+const SECOND_LINES: [(&str, LineCause); 36] = [
     ("1 read 0 1 2", LineCause::Range),
     ("05 read 0 0 1", LineCause::Word),
     ("18446744073709551616 read 0 0 1", LineCause::Word),
@@ -17,12 +17,17 @@ const SECOND_LINES: [(&str, LineCause); 31] = [
     ("1", LineCause::Form),
     ("1 ", LineCause::Form),
     (" 1", LineCause::Form),
-    ("1 free 0", LineCause::Later),
-    ("1 alloc 0 movable", LineCause::Later),
     ("host frob", LineCause::Word),
     ("host", LineCause::Later),
     ("host config", LineCause::Later),
-    ("online kernel", LineCause::Later),
+    ("online", LineCause::Form),
+    ("online ", LineCause::Form),
+    ("online both", LineCause::Form),
+    ("online unmovable", LineCause::Form),
+    ("online  kernel", LineCause::Form),
+    ("online kernel x", LineCause::Form),
+    ("online kernel movable", LineCause::Form),
+    ("onlinekernel", LineCause::Word),
     ("fail 1", LineCause::Later),
     ("page 0 movable", LineCause::Form),
     ("page 0 movable 0 ", LineCause::Form),
@@ -41,7 +46,18 @@ const SECOND_LINES: [(&str, LineCause); 31] = [
 ];
 
 /// The same of calls, and of counts of them.
-const CALL_LINES: [(&str, LineCause); 32] = [
+const CALL_LINES: [(&str, LineCause); 43] = [
+    ("1 alloc", LineCause::Form),
+    ("1 alloc 0", LineCause::Form),
+    ("1 alloc 0 kernel", LineCause::Form),
+    ("1 alloc 0 movable 0", LineCause::Form),
+    ("1 alloc movable 0", LineCause::Form),
+    ("1 alloc 8 movable", LineCause::Range),
+    ("1 alloc 99 movable", LineCause::Range),
+    ("17 alloc 0 unmovable", LineCause::Range),
+    ("1 free", LineCause::Form),
+    ("1 free 0 movable", LineCause::Form),
+    ("1 free 8", LineCause::Range),
     ("1 pin", LineCause::Form),
     ("1 pin 0 0", LineCause::Form),
     ("1 pin 8", LineCause::Range),
@@ -57,8 +73,8 @@ const CALL_LINES: [(&str, LineCause); 32] = [
     ("1 x5 frob", LineCause::Word),
     ("1 xyz frob 0", LineCause::Word),
     ("1 x5 x5 pin 0", LineCause::Word),
-    ("1 x5 free 0", LineCause::Later),
-    ("1 xyz free 0", LineCause::Later),
+    ("1 x0 free 0", LineCause::Range),
+    ("1 xyz free 0", LineCause::Form),
     ("1 xyz pin 0", LineCause::Form),
     ("1 x5", LineCause::Form),
     ("1 x5 ", LineCause::Form),
@@ -110,7 +126,7 @@ const TURN_LINES: [(&str, LineCause); 29] = [
 ];
 
 /// Whole texts, the line that is refused, and its cause.
-const TEXTS: [(&str, u64, LineCause); 19] = [
+const TEXTS: [(&str, u64, LineCause); 27] = [
     ("", 0, LineCause::Empty),
     ("# nothing\n\n#\r\n", 0, LineCause::Empty),
     ("machine 3 4 2 4 4 8\n", 1, LineCause::Range),
@@ -135,6 +151,38 @@ const TEXTS: [(&str, u64, LineCause); 19] = [
         "machine 2 4 2 4 4 8\n\n1 read 0 0 1\n# more\n1 write 0 1 7 8\n",
         5,
         LineCause::Range,
+    ),
+    ("online kernel\nmachine 2 4 2 4 4 8\n", 1, LineCause::Order),
+    ("online both\nmachine 2 4 2 4 4 8\n", 1, LineCause::Form),
+    (
+        "machine 2 4 2 4 4 8\nonline kernel\nonline kernel\n",
+        3,
+        LineCause::Order,
+    ),
+    (
+        "machine 2 4 2 4 4 8\nonline movable\n# more\nonline kernel\n",
+        4,
+        LineCause::Order,
+    ),
+    (
+        "machine 2 4 2 4 4 8\nonline movable\nonline both\n",
+        3,
+        LineCause::Form,
+    ),
+    (
+        "machine 2 4 2 4 4 8\nonline movable\npage 0 unmovable 8\n",
+        3,
+        LineCause::Page,
+    ),
+    (
+        "machine 2 4 2 4 4 8\npage 0 unmovable 8\nonline kernel\n",
+        2,
+        LineCause::Page,
+    ),
+    (
+        "machine 2 4 2 4 2 8\nonline kernel\npage 0 unmovable 16\n",
+        3,
+        LineCause::Page,
     ),
     ("turns\n", 1, LineCause::Form),
     ("turns 0\n", 1, LineCause::Order),
@@ -210,6 +258,14 @@ fn whole_texts(rt: HostRuntime) {
     }
 }
 
+fn page(page: u32, kind: Kind, frame: u32) -> StartPage {
+    StartPage {
+        page: PageNo(page),
+        kind,
+        frame: FrameNo(frame),
+    }
+}
+
 #[test]
 fn accepted(rt: HostRuntime) -> Result<(), Fail> {
     let text =
@@ -223,18 +279,8 @@ fn accepted(rt: HostRuntime) -> Result<(), Fail> {
         (scenario.geometry.plugged(), scenario.geometry.managed()),
         (4, 4)
     );
-    let start = [
-        StartPage {
-            page: PageNo(7),
-            kind: Kind::Movable,
-            frame: FrameNo(23),
-        },
-        StartPage {
-            page: PageNo(0),
-            kind: Kind::Unmovable,
-            frame: FrameNo(7),
-        },
-    ];
+    assert_eq!(rt; scenario.online, None);
+    let start = [page(7, Kind::Movable, 23), page(0, Kind::Unmovable, 7)];
     assert_eq!(rt; scenario.start.as_slice(), start.as_slice());
     let mut values = Cells::new();
     values.push(u64::MAX);
@@ -248,6 +294,46 @@ fn accepted(rt: HostRuntime) -> Result<(), Fail> {
     assert!(rt; scripts[1].is_empty());
     let third = [(PageNo(7), write), (PageNo(6), read)];
     assert_eq!(rt; scripts[2].as_slice(), third.as_slice());
+    Ok(())
+}
+
+#[test]
+fn online_counts_for_the_pages_behind_it(rt: HostRuntime) -> Result<(), Fail> {
+    let text =
+        "machine 2 4 2 4 4 8\npage 0 movable 8\npage 1 unmovable 7\nonline kernel\npage 2 unmovable 9\npage 3 movable 0\n";
+    let scenario = read_scenario(rt.alloc(), text.as_bytes())?;
+    assert_eq!(rt; scenario.online, Some(Kind::Unmovable));
+    let start = [
+        page(0, Kind::Movable, 8),
+        page(1, Kind::Unmovable, 7),
+        page(2, Kind::Unmovable, 9),
+        page(3, Kind::Movable, 0),
+    ];
+    assert_eq!(rt; scenario.start.as_slice(), start.as_slice());
+    Ok(())
+}
+
+#[test]
+fn allocs_and_frees_are_read(rt: HostRuntime) -> Result<(), Fail> {
+    let text =
+        "machine 2 4 2 4 4 8\n1 alloc 0 movable\nonline movable\n1 x2 free 0\n1 alloc 7 unmovable";
+    let scenario = read_scenario(rt.alloc(), text.as_bytes())?;
+    assert_eq!(rt; scenario.online, Some(Kind::Movable));
+    assert!(rt; scenario.start.is_empty());
+    let movable = Call::Alloc {
+        kind: Kind::Movable,
+    };
+    let unmovable = Call::Alloc {
+        kind: Kind::Unmovable,
+    };
+    let script = [
+        (PageNo(0), movable),
+        (PageNo(0), Call::Free),
+        (PageNo(0), Call::Free),
+        (PageNo(7), unmovable),
+    ];
+    assert_eq!(rt; scenario.owners.len(), 1);
+    assert_eq!(rt; scenario.owners.as_slice()[0].as_slice(), script.as_slice());
     Ok(())
 }
 
