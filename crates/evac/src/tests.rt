@@ -4,7 +4,8 @@ ghost use Rattle.std.specs.Prelude.{◌≡◌, None};
 
 use crate::replay_main;
 use evac_io::{ByteList, Failed, MemSink, MemSource, NumberList, Source};
-use evac_model::{Entry, FrameNo, Geometry, Kind, PageNo, Plain, StartPage};
+use evac_model::{Entry, FrameNo, Geometry, Kind, PageNo, Plain, Reply, StartPage};
+use report::Report;
 use std::alloc::Global;
 use std::process::Abort;
 use std::test::Fail;
@@ -138,14 +139,78 @@ fn schedules_leave_what_their_steps_leave(rt: HostRuntime) -> Result<(), Fail> {
 }
 
 #[test]
-fn a_free_is_not_read_yet(rt: HostRuntime) -> Result<(), Fail> {
+fn what_isnt_built_yet_is_later(rt: HostRuntime) -> Result<(), Fail> {
     small_replays(
         &rt,
         rt.alloc(),
-        b"page 0 movable 0\n1 free 0\n",
+        b"page 0 movable 0\nfail 1\n",
         3,
         b"scenario: line 3: later\n",
+    )?;
+    small_replays(
+        &rt,
+        rt.alloc(),
+        b"host config\n",
+        3,
+        b"scenario: line 2: later\n",
     )
+}
+
+/// Scenarios with allocs and frees, and what they leave, by journals counted by hand.
+const LEASES: [(&[u8], &[u8]); 9] = [
+    // the freed frame is in the cache of owner 1, and owner 2 takes the next run
+    (
+        b"machine 2 4 2 4 4 8\n1 alloc 0 movable\n1 write 0 0 5\n1 free 0\n2 alloc 0 movable\n2 read 0 0 2\nturns 1*18\n",
+        b"call 0 1 0 alloc 0 movable = ok\ncall 1 1 1 write 0 0 5 = ok\ncall 2 1 2 free 0 = ok\ncall 3 2 0 alloc 0 movable = ok\ncall 4 2 1 read 0 0 2 = 0 0\nspace 0 lease 1 0 alloc 0 movable\nspace 1 return 1 0\nspace 2 lease 2 4 alloc 0 movable\nplugged 0 1 2 3\npage 0 movable 0\nend\n",
+    ),
+    // every frame is out
+    (
+        b"machine 1 2 1 1 1 5\npage 0 movable 0\npage 1 movable 1\npage 2 movable 2\npage 3 movable 3\n1 alloc 4 movable\n",
+        b"call 0 1 0 alloc 4 movable = noframe 0\nplugged 0\npage 0 movable 0\npage 1 movable 0\npage 2 movable 0\npage 3 movable 0\nend\n",
+    ),
+    // a page that is mapped is not allocated: its frame goes back
+    (
+        b"machine 2 4 2 4 4 8\npage 0 movable 0\n1 alloc 0 movable\n1 x2 add 0 1 18446744073709551615\n",
+        b"call 0 1 0 alloc 0 movable = mapped\ncall 1 1 1 add 0 1 18446744073709551615 = 0\ncall 2 1 2 add 0 1 18446744073709551615 = 18446744073709551615\nspace 0 lease 1 4 alloc 0 movable\nspace 1 return 1 4\nplugged 0 1 2 3\npage 0 movable 0 1:18446744073709551614\nend\n",
+    ),
+    // a mapped page without a frame left is mapped, and a free with a pin gives nothing back
+    (
+        b"machine 1 1 1 1 1 3\npage 0 movable 0\npage 1 movable 1\n1 alloc 0 movable\n1 pin 1\n1 free 1\n1 unpin 1\n1 free 1\n1 alloc 2 movable\n1 alloc 1 movable\n",
+        b"call 0 1 0 alloc 0 movable = mapped\ncall 1 1 1 pin 1 = ok\ncall 2 1 2 free 1 = pinned\ncall 3 1 3 unpin 1 = ok\ncall 4 1 4 free 1 = ok\ncall 5 1 5 alloc 2 movable = ok\ncall 6 1 6 alloc 1 movable = noframe 2\nspace 0 return 1 1\nspace 1 lease 1 1 alloc 2 movable\nplugged 0\npage 0 movable 0\npage 2 movable 0\nend\n",
+    ),
+    // runs of order 2, 1 and 0, the smallest that fits first, and the caches behind them
+    (
+        b"machine 1 4 1 2 2 8\npage 0 movable 0\npage 1 movable 4\npage 2 movable 5\n1 alloc 3 movable\n2 alloc 4 movable\n3 alloc 5 movable\nturns 1*7 2*7 3*7\n",
+        b"call 0 1 0 alloc 3 movable = ok\ncall 1 2 0 alloc 4 movable = ok\ncall 2 3 0 alloc 5 movable = ok\nspace 0 lease 1 8 alloc 3 movable\nspace 1 lease 2 2 alloc 4 movable\nspace 2 lease 3 6 alloc 5 movable\nplugged 0 1\npage 0 movable 0\npage 1 movable 0\npage 2 movable 0\npage 3 movable 0\npage 4 movable 0\npage 5 movable 0\nend\n",
+    ),
+    // no run is left: the caches are drained, and the lease is tried once more
+    (
+        b"machine 1 4 1 1 1 8\npage 0 movable 0\npage 1 movable 1\npage 2 movable 2\npage 3 movable 3\n1 alloc 4 movable\n2 alloc 5 movable\nturns 1*7 2*7\n",
+        b"call 0 1 0 alloc 4 movable = ok\ncall 1 2 0 alloc 5 movable = ok\nspace 0 lease 1 4 alloc 4 movable\nspace 1 lease 2 6 alloc 5 movable\nplugged 0\npage 0 movable 0\npage 1 movable 0\npage 2 movable 0\npage 3 movable 0\npage 4 movable 0\npage 5 movable 0\nend\n",
+    ),
+    // unmovable pages get frames of boot blocks alone, whatever else is free
+    (
+        b"machine 1 2 1 1 1 8\npage 0 unmovable 0\n1 alloc 1 unmovable\n1 alloc 2 unmovable\n1 alloc 3 movable\n",
+        b"call 0 1 0 alloc 1 unmovable = ok\ncall 1 1 1 alloc 2 unmovable = noframe 1\ncall 2 1 2 alloc 3 movable = ok\nspace 0 lease 1 1 alloc 1 unmovable\nspace 1 lease 1 2 alloc 3 movable\nplugged 0\npage 0 unmovable 0\npage 1 unmovable 0\npage 3 movable 0\nend\n",
+    ),
+    // but where managed blocks are online for the kernel's pages
+    (
+        b"machine 1 2 1 1 1 8\nonline kernel\npage 0 unmovable 0\npage 1 unmovable 2\n1 x3 alloc 2 unmovable\n1 alloc 3 unmovable\n",
+        b"call 0 1 0 alloc 2 unmovable = ok\ncall 1 1 1 alloc 2 unmovable = mapped\ncall 2 1 2 alloc 2 unmovable = mapped\ncall 3 1 3 alloc 3 unmovable = ok\nspace 0 lease 1 1 alloc 2 unmovable\nspace 1 lease 1 3 alloc 2 unmovable\nspace 2 return 1 3\nspace 3 lease 1 3 alloc 2 unmovable\nspace 4 return 1 3\nspace 5 lease 1 3 alloc 3 unmovable\nplugged 0\npage 0 unmovable 0\npage 1 unmovable 0\npage 2 unmovable 0\npage 3 unmovable 0\nend\n",
+    ),
+    // frames of blocks that aren't plugged are leased to nobody
+    (
+        b"machine 1 1 1 3 1 8\npage 0 movable 0\n1 alloc 1 movable\n1 alloc 2 movable\n",
+        b"call 0 1 0 alloc 1 movable = ok\ncall 1 1 1 alloc 2 movable = noframe 1\nspace 0 lease 1 1 alloc 1 movable\nplugged 0\npage 0 movable 0\npage 1 movable 0\nend\n",
+    ),
+];
+
+#[test]
+fn leases_and_returns_are_those_of_the_calls(rt: HostRuntime) -> Result<(), Fail> {
+    for (input, text) in &LEASES {
+        replays(&rt, rt.alloc(), input, 0, text)?;
+    }
+    Ok(())
 }
 
 #[test]
@@ -281,7 +346,11 @@ fn is_answered_alike(rt: &impl Abort, plain: &mut Plain, geometry: &Geometry, e:
 {
     assert!(rt; e.page.0 < geometry.pages());
     assert!(rt; e.call.fits(geometry));
-    assert_eq!(rt; plain.apply(e.page, &e.call, None), e.reply);
+    let no_frame = match e.reply {
+        Reply::NoFrame { at } => Some(at),
+        _ => None,
+    };
+    assert_eq!(rt; plain.apply(e.page, &e.call, no_frame), e.reply);
 }
 
 /// The plain machine answers each entry's call as the entry says, one after another.
@@ -294,15 +363,20 @@ fn are_answered_alike(rt: &impl Abort, plain: &mut Plain, geometry: &Geometry, e
     }
 }
 
+/// The report of an input.
+fn report_of(alloc: Global, input: &[u8]) -> Result<Report, Fail> {
+    let mut source = MemSource::new(bytes_of(alloc, input)?, numbers_of(alloc, &[])?);
+    let mut sink = MemSink::with_room(alloc, 1 << 16).ok().ok_or("room")?;
+    let report = replay_main(alloc, &["replay"], &mut source, &mut sink).report;
+    Ok(report.ok_or("report")?)
+}
+
 #[test]
 fn replies_are_those_of_the_plain_machine(rt: HostRuntime) -> Result<(), Fail> {
     let alloc = rt.alloc();
     let lines =
-        b"machine 4 2 1 2 2 4\npage 1 movable 5\n1 write 1 0 9 8\n2 read 1 0 4\n2 read 3 0 1\n1 read 1 1 2\n2 write 1 1 1\n1 read 1 0 4\n";
-    let mut source = MemSource::new(bytes_of(alloc, lines)?, numbers_of(alloc, &[])?);
-    let mut sink = MemSink::with_room(alloc, 4096).ok().ok_or("room")?;
-    let report = replay_main(alloc, &["replay"], &mut source, &mut sink).report;
-    let report = report.ok_or("report")?;
+        b"machine 4 2 1 2 2 4\npage 1 movable 5\n1 write 1 0 9 8\n2 read 1 0 4\n2 x3 alloc 3 movable\n1 alloc 3 movable\n2 x2 add 3 1 5\n1 x2 pin 3\n2 free 3\n1 x2 free 1\n2 alloc 2 unmovable\n1 x3 alloc 0 movable\n2 write 1 1 1\n1 x2 unpin 3\n2 x2 free 3\n1 read 1 0 4\n1 alloc 1 movable\n2 read 3 0 1\nturns 1*9 2*4\ndraw 5 300\n";
+    let report = report_of(alloc, lines)?;
     let geometry = Geometry::new(4, 2, 1, 2, 2, 4)?;
     let start = [StartPage {
         page: PageNo(1),
@@ -310,7 +384,30 @@ fn replies_are_those_of_the_plain_machine(rt: HostRuntime) -> Result<(), Fail> {
         frame: FrameNo(5),
     }];
     let mut plain = Plain::new(alloc, geometry, &start)?;
-    assert_eq!(rt; report.history.len(), 6);
+    assert_eq!(rt; report.history.len(), 25);
     are_answered_alike(&rt, &mut plain, &geometry, report.history.as_slice());
+    Ok(())
+}
+
+/// The reply to each of 64 pins, a free, and 64 unpins of one page.
+fn pinned_reply(ticket: u64) -> Reply {
+    match ticket {
+        63 => Reply::PinLimit,
+        64 => Reply::Pinned,
+        128 => Reply::NotPinned,
+        _ => Reply::Done,
+    }
+}
+
+#[test]
+fn a_pinned_page_is_not_freed(rt: HostRuntime) -> Result<(), Fail> {
+    let lines =
+        b"machine 2 4 2 4 4 8\npage 0 movable 0\n1 x64 pin 0\n1 free 0\n1 x64 unpin 0\n";
+    let report = report_of(rt.alloc(), lines)?;
+    assert_eq!(rt; report.history.len(), 129);
+    assert_eq!(rt; report.space_journal.len(), 0);
+    for e in report.history.as_slice() {
+        assert_eq!(rt; e.reply, pinned_reply(e.ticket));
+    }
     Ok(())
 }

@@ -8,9 +8,11 @@ use std::process::ExitCode;
 use std::{fs, io};
 
 /// The examples: each is a file with the ending `scn`, and one with the ending `txt`.
-const NAMES: [&str; 7] = [
+const NAMES: [&str; 9] = [
+    "allocs-and-frees",
     "drawn-turns",
     "named-turns",
+    "no-frame",
     "real-sizes",
     "refused",
     "three-scripts",
