@@ -1,6 +1,5 @@
-//! The owners of a run, with allocs and frees. Each says what it does next, from what its earlier
-//! actions gave; it does nothing itself. These owners take the place of those of `core_actors` once a
-//! replay makes leases, returns and steps on mappings.
+//! The owners of a run. Each says what it does next, from what its earlier actions gave; it does nothing
+//! itself.
 #![tactic(auto)]
 
 mod action;

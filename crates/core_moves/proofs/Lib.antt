@@ -12,3 +12,4 @@ pub mod HandFrames
 pub mod HandOvers
 pub mod SoundMoves
 pub mod CoreMoves
+pub mod TestMoves

@@ -12,3 +12,6 @@ pub use laws::{
     moves_keep_turn,
 };
 pub use on_core::{hand_over, step_move};
+
+#[cfg(test)]
+mod tests;
