@@ -9,3 +9,5 @@ pub mod Refusals
 pub mod Numbers
 pub mod Ranges
 pub mod Padded
+pub mod Pairings
+pub mod PairedExample

@@ -16,6 +16,7 @@ pub mod History
 pub mod Laws
 pub mod Scripts
 pub mod Pairing
+pub mod PairingExamples
 pub mod Calls
 pub mod StartPages
 pub mod Turns

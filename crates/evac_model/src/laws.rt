@@ -16,6 +16,7 @@ ghost use Rattle.evac_model.specs.Calls.{IsCallFor};
 ghost use Rattle.evac_model.specs.History.{answer_in, after_entry, after_entries, IsLegal};
 ghost use Rattle.evac_model.specs.Laws.{AsksForFrame, IsRefusal};
 ghost use Rattle.evac_model.specs.Examples.{RunsOfSmall, LeasesOfSmall, AnswersOfSmall};
+ghost use Rattle.evac_model.specs.PairingExamples.{PairingsOfSmall};
 
 /// A refused lease counts for a call that asks for a frame alone: any other call has one answer.
 pub fn lease_counts_for_alloc_alone()
@@ -66,4 +67,9 @@ pub fn leases_of_a_small_machine()
 /// The answers of a small machine's device to requests at each edge, worked out by hand.
 pub fn answers_of_a_small_machine()
     ensures { AnswersOfSmall }
+{}
+
+/// Which actions are those of a history's calls, and where a lease was refused, worked out by hand.
+pub fn pairings_of_a_small_machine()
+    ensures { PairingsOfSmall }
 {}

@@ -27,7 +27,7 @@ pub use geometry::{Geometry, GeometryFault};
 pub use laws::{
     answers_of_a_small_machine, is_in_contains, lease_counts_for_alloc_alone,
     leases_of_a_small_machine, legal_push, legal_tickets, numbers_that_pass, pages_stay_in_size,
-    refusal_changes_nothing, runs_of_a_small_machine,
+    pairings_of_a_small_machine, refusal_changes_nothing, runs_of_a_small_machine,
 };
 pub use list::{BlockList, ByteList, Listed, NumberList};
 pub use names::{BlockNo, FrameNo, Kind, OutOfMemory, PageNo};
