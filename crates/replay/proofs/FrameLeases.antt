@@ -1,0 +1,215 @@
+-- A lease takes a free frame into the owner's hand, where it is out for the call; a refused one changes nothing.
+use Rattle.std.proofs.Common.{◌≡◌, ◌≢◌, ℕ, suc, ◌<◌, ◌≤◌, false, List, [], ◌∷◌, ◌++◌, length, length-set, get_or, get_or-set_same, get_or-set_other, set, slice_get, sym, refl, ap, ◌∙◌, subst, inr, arith, Option, Some, None, IsSome}
+use Rattle.std.proofs.lemmas.Option.{get_or_from_slice_get, slice_get-get_or, none-some}
+use mathlib.Core.Logic.{dite}
+use native.Mathlib.Decide.{ℕ_discrete}
+use Rattle.evac_model.specs.declared.names.FrameNo.{FrameNo}
+use Rattle.evac_model.specs.declared.names.Kind.{Kind}
+use Rattle.evac_model.specs.declared.names.PageNo.{PageNo}
+use Rattle.evac_model.specs.declared.call.Call.{Call}
+use Rattle.evac_model.specs.declared.call.Call.TheVariants.{Alloc}
+use Rattle.evac_model.specs.declared.scenario.Scenario.{Scenario}
+use Rattle.evac_model.specs.declared.space.SpaceAction.{SpaceAction}
+use Rattle.evac_model.specs.declared.space.SpaceAction.TheVariants as space
+use Rattle.evac_model.specs.Geometry.{Sizes, frame_count}
+use Rattle.evac_model.specs.ScenarioGrammar.{online_of}
+use Rattle.evac_model.specs.Scenarios.{IsRunnable}
+use Rattle.evac_model.specs.Scripts.{script_of}
+use Rattle.evac_model.specs.SpaceJournal.{SpaceState, Leased, IsLeasable, out_for, lease_of, after_lease, space_at_start, Chooses, IsPossibleJournal}
+use Rattle.core_state.specs.declared.hand.HandFrame.{HandFrame}
+use Rattle.core_state.specs.declared.opening.Opening.{Opening}
+use Rattle.core_state.specs.declared.view.View.{View}
+use Rattle.core_state.specs.Views.{Has, view_of, spent, hand_frame}
+use Rattle.core_state.specs.HandOvers.{IsAtRest, hand_without, hand_with, views_after_hand_over}
+use Rattle.core_state.proofs.Lists.{within}
+use Rattle.core_actors.specs.declared.action.Action.TheVariants as actions
+use Rattle.core_actors.specs.declared.action.Heard.{Heard}
+use Rattle.core_actors.specs.declared.action.Heard.TheVariants as heard
+use Rattle.core_actors.specs.declared.action.LeaseSeen.{LeaseSeen}
+use Rattle.core_actors.specs.declared.action.SpaceCall.TheVariants.{Lease}
+use Rattle.core_actors.specs.Fits.{Fits}
+use Rattle.core_actors.specs.Owners.{OwnerState, owner_ended, next_action, owner_after}
+use Rattle.core_actors.proofs.ActionKinds.{ActionKind, leases, zeroes, marks_zeros, takes, draws, loads_cell, stores_cell, marks, maps, unmaps, releases, action_at, kind_at}
+use Rattle.core_actors.proofs.AtRest.{lease_allowed}
+use Rattle.core_actors.proofs.HandSteps.{hand_without_one, hand_with_one}
+use Rattle.space.proofs.Journals.{space_after-append}
+use Rattle.space.proofs.Leases.{leased_free}
+use Rattle.space.proofs.SpaceLaws.{possible_goes_on}
+use Rattle.space.specs.SpaceInside.{IsSpace}
+use Rattle.replay.specs.Keeping.{IsKept}
+use Rattle.replay.specs.Machine.{Machine, free_seat, space_at}
+use Rattle.replay.specs.Runs.{opening, setting}
+use Rattle.replay.specs.FramesOut.{space_now, IsOutForCall, AreFramesPlaced}
+use Rattle.replay.proofs.FramesAfter.{IsMoved, placed_again, placed_later}
+use Rattle.replay.proofs.FrameSteps.{after_is}
+use Rattle.replay.proofs.OutForCalls.{not_none, is_out, out_still}
+use Rattle.replay.proofs.SpaceNow.{space_is}
+
+-- ---- which lease it is
+
+module _ (n : ℕ) (c : PageNo × Call) (lease : LeaseSeen) (found : ℕ) (loads : List ℕ) (made : ℕ) (page : PageNo) (kind : Kind) (is : action_at n c lease found loads made ≡ actions.Space (Lease page kind)) where
+  lease_is : ActionKind n c lease found loads made → (c.0 ≡ page) × (c.1 ≡ Alloc kind)
+  lease_is (leases given ec z e) = let same : given ≡ kind = cc in (cc, ec ∙ ap (λ (k : Kind). Alloc k) same)
+  lease_is (zeroes other f j ec el z lt e) = absurd (cc)
+  lease_is (marks_zeros other f ec el z e) = absurd (cc)
+  lease_is (takes z e) = absurd (cc)
+  lease_is (draws z e) = absurd (cc)
+  lease_is (loads_cell j plain z lt mapped e) = absurd (cc)
+  lease_is (stores_cell j plain z lt mapped e) = absurd (cc)
+  lease_is (marks plain z lt mapped e) = absurd (cc)
+  lease_is (maps other f ec el un z e) = absurd (cc)
+  lease_is (unmaps ec freed z e) = absurd (cc)
+  lease_is (releases z e) = absurd (cc)
+
+module _ (s : Sizes) (o : Opening) (v : View) (script : List (PageNo × Call)) (owner cells : ℕ) (lease : LeaseSeen) (found : ℕ) (loads : List ℕ) (made : ℕ) (page : PageNo) (kind : Kind) (st : SpaceState) (f : ℕ) where
+  abbrev state : List (PageNo × Call) → Option FrameNo → OwnerState
+  state left back = record { owner = owner; cells = cells; left = left; lease = lease; found = found; loads = loads; made = made; back = back }
+
+  abbrev IsOutAs : PageNo → (kind : Kind) → Type 0
+  IsOutAs q k = out_for st f ≡ Some (record { page = q.0; kind = k })
+
+  out_from : (left : List (PageNo × Call)) (back : Option FrameNo) → Fits s o script v (state left back) → owner_ended (state left back) ≡ false → next_action (state left back) ≡ actions.Space (Lease page kind)
+      → IsOutAs page kind → IsOutForCall st left back f
+  out_from left (Some g) fits going is out = absurd (cc)
+  out_from [] None fits going is out = absurd (cc)
+  out_from (c ∷ cs) None fits going is out =
+      let k = lease_is cells c lease found loads made page kind is (kind_at cells c lease found loads s (fits.calls.0).call made fits.under_way.call.0) in
+      subst (λ (call : Call). IsOutForCall st ((c.0, call) ∷ cs) None f) (sym k.1) (subst (λ (q : PageNo). IsOutAs q kind) (sym k.0) out)
+
+-- a frame that is out as the lease asked is out for the call
+out_as_asked : (s : Sizes) (o : Opening) (v : View) (script : List (PageNo × Call)) (a : OwnerState) (page : PageNo) (kind : Kind) (st : SpaceState) (f : ℕ) → Fits s o script v a → owner_ended a ≡ false → next_action a ≡ actions.Space (Lease page kind)
+    → out_for st f ≡ Some (record { page = page.0; kind = kind }) → IsOutForCall st a.left a.back f
+out_as_asked s o v script a page kind st f fits going is out = out_from s o v script a.owner a.cells a.lease a.found a.loads a.made page kind st f a.left a.back fits going is out
+
+-- ---- the lease
+
+module _ (s : Scenario) (m : Machine) (r : IsRunnable s) (p : IsKept s m) (i : ℕ) (a : OwnerState) (v : View) (at : slice_get m.owners i ≡ Some a) (has : Has m.snapshot.views (suc i) v) (going : owner_ended a ≡ false)
+    (page : PageNo) (kind : Kind) (is : next_action a ≡ actions.Space (Lease page kind)) where
+  abbrev st : SpaceState
+  st = space_now s m
+
+  abbrev script : List (PageNo × Call)
+  script = script_of s.owners (suc i)
+
+  fits : Fits s.geometry (opening s) script v a
+  fits = (p.seats.fits i a v at has).1
+
+  may : IsAtRest (opening s) v × (page.0 < s.geometry.pages)
+  may = lease_allowed s.geometry (opening s) v script a page kind fits going is
+
+  below : i < length m.owners
+  below = within m.owners i a at
+
+  abbrev free : ℕ
+  free = free_seat (length m.owners)
+
+  was_out : (f : ℕ) → IsSome (hand_frame v f) → IsOutForCall st a.left a.back f
+  was_out f some = p.frames.in_hand i a f at (subst (λ (w : View). IsSome (hand_frame w f)) (sym (get_or_from_slice_get m.snapshot.views (suc i) v spent has)) some)
+
+  -- the call under way stays the same, whatever the lease gives
+  out_then : (x : Heard) (after : SpaceState) (f : ℕ) → IsOutForCall after a.left a.back f → IsOutForCall after (owner_after a x).left (owner_after a x).back f
+  out_then x after f out = subst (λ (b : OwnerState). IsOutForCall after b.left b.back f) (sym (after_is a x (actions.Space (Lease page kind)) going is)) out
+
+  -- `n` is the place of the owner
+  pub refusal_placed : (at_place n : ℕ) → n ≡ i → AreFramesPlaced s (record { snapshot = m.snapshot; owners = set m.owners n (owner_after a (heard.NoFrame at_place)); journal = m.journal })
+  refusal_placed at_place n place = placed_again s m p.frames i below (owner_after a (heard.NoFrame at_place)) n place m.snapshot.words m.snapshot.views (λ seat ne. refl) p.frames.mapped
+      (λ f some. out_then (heard.NoFrame at_place) st f (p.frames.in_hand i a f at some))
+
+  module _ (l : Leased) (e : lease_of s.geometry (online_of s) st (suc i) kind ≡ Some l) where
+    abbrev journal : List SpaceAction
+    journal = m.journal ++ space.Lease (suc i) (record { 0 = l.frame }) page kind ∷ []
+
+    abbrev then : SpaceState
+    then = space_at (setting s) journal
+
+    abbrev giver : View
+    giver = view_of m.snapshot.views free
+
+    abbrev views : List View
+    views = views_after_hand_over m.snapshot.views free (suc i) giver v l.frame 1
+
+    is_space : IsSpace s.geometry (online_of s) st
+    is_space = space_is s m r p.frames
+
+    leasable : IsLeasable s.geometry (online_of s) st kind l.frame
+    leasable = leased_free (record { sizes = s.geometry; online = online_of s; opening = space_at_start s.geometry s.start; journal = m.journal }) (suc i) kind l r.limits is_space e
+
+    behind : then ≡ after_lease st (Some l) page.0 kind
+    behind = space_after-append s.geometry (online_of s) (space_at_start s.geometry s.start) m.journal (space.Lease (suc i) (record { 0 = l.frame }) page kind) ∙ ap (λ (x : Option Leased). after_lease st x page.0 kind) e
+
+    out_here : out_for then l.frame ≡ Some (record { page = page.0; kind = kind })
+    out_here = let low = leasable.there in let long = is_space.out in
+        ap (λ (x : SpaceState). out_for x l.frame) behind ∙ get_or-set_same st.out l.frame (Some (record { page = page.0; kind = kind })) None (omega arith)
+
+    out_other : (f : ℕ) → f ≢ l.frame → out_for then f ≡ out_for st f
+    out_other f ne = ap (λ (x : SpaceState). out_for x f) behind ∙ get_or-set_other st.out l.frame f (Some (record { page = page.0; kind = kind })) None ne
+
+    -- ---- the hands
+
+    free_there : free < length m.snapshot.views
+    free_there = let x = p.seats.seats in let y = p.seats.owners in omega arith
+
+    giver_long : length giver.hand ≡ frame_count s.geometry
+    giver_long = let y = p.seats.owners in (p.seats.others free giver (slice_get-get_or m.snapshot.views free spent free_there) (inr (omega arith))).rests.seated.hand
+
+    abbrev given : View
+    given = record giver { hand = hand_without giver.hand l.frame 1 }
+
+    abbrev got : View
+    got = record v { hand = hand_with v.hand giver.hand l.frame 1 }
+
+    others_then : (seat : ℕ) → seat ≢ suc i → seat ≢ free → view_of views seat ≡ view_of m.snapshot.views seat
+    others_then seat ne other = get_or-set_other (set m.snapshot.views free given) (suc i) seat got spent ne ∙ get_or-set_other m.snapshot.views free seat given spent other
+
+    free_then : view_of views free ≡ given
+    free_then = get_or-set_other (set m.snapshot.views free given) (suc i) free got spent (λ q. let lt = below in absurd (omega arith)) ∙ get_or-set_same m.snapshot.views free given spent free_there
+
+    mine_then : view_of views (suc i) ≡ got
+    mine_then = get_or-set_same (set m.snapshot.views free given) (suc i) got spent (let x = length-set m.snapshot.views free given in let y = within m.snapshot.views (suc i) v has in omega arith)
+
+    given_hand : hand_without giver.hand l.frame 1 ≡ set giver.hand l.frame None
+    given_hand = hand_without_one giver.hand l.frame (let low = leasable.there in let long = giver_long in omega arith)
+
+    got_hand : hand_with v.hand giver.hand l.frame 1 ≡ set v.hand l.frame (get_or giver.hand l.frame None)
+    got_hand = hand_with_one giver.hand v.hand l.frame (let low = leasable.there in let long = giver_long in omega arith) (let low = leasable.there in let long = fits.seated.hand in omega arith)
+
+    free_frame : (f : ℕ) → hand_frame (view_of views free) f ≡ get_or (set giver.hand l.frame None) f None
+    free_frame f = ap (λ (w : View). hand_frame w f) free_then ∙ ap (λ (h : List (Option HandFrame)). get_or h f None) given_hand
+
+    my_frame : (f : ℕ) → f ≢ l.frame → hand_frame (view_of views (suc i)) f ≡ hand_frame v f
+    my_frame f ne = ap (λ (w : View). hand_frame w f) mine_then ∙ (ap (λ (h : List (Option HandFrame)). get_or h f None) got_hand ∙ get_or-set_other v.hand l.frame f (get_or giver.hand l.frame None) None ne)
+
+    gone : hand_frame (view_of views free) l.frame ≡ None
+    gone = free_frame l.frame ∙ get_or-set_same giver.hand l.frame None None (let low = leasable.there in let long = giver_long in omega arith)
+
+    -- ---- the journal
+
+    possible : IsPossibleJournal s.geometry (online_of s) (space_at_start s.geometry s.start) journal
+    possible =
+        let few : suc i ≤ 16 = let x = r.owners in let y = p.seats.owners in let z = below in omega arith in
+        (possible_goes_on s.geometry (online_of s) (space_at_start s.geometry s.start) m.journal (space.Lease (suc i) (record { 0 = l.frame }) page kind)).1
+        (p.frames.possible, (few, may.1, subst (λ (x : Option Leased). Chooses x l.frame) (sym e) refl))
+
+    moved : (n : ℕ) (place : n ≡ i) → IsMoved s m p.frames i below (owner_after a (heard.Leased (record { 0 = l.frame }))) n place views others_then journal l.frame
+    moved n place = record {
+      possible = possible;
+      offline = ap (λ (x : SpaceState). x.offline) behind;
+      out = out_other;
+      free = λ f ne. free_frame f ∙ get_or-set_other giver.hand l.frame f None None ne;
+      unmapped = λ q low on same. none-some _ (sym leasable.not_out ∙ (ap (λ (f : ℕ). out_for st f) (sym same) ∙ p.frames.mapped q low on));
+      in_no_hand = λ j b ne at_j had. is_out st l.frame b.left b.back (p.frames.in_hand j b l.frame at_j had) leasable.not_out;
+    }
+
+    in_hand_then : (f : ℕ) → IsSome (hand_frame (view_of views (suc i)) f) → IsOutForCall then a.left a.back f
+    in_hand_then f some = dite (ℕ_discrete f l.frame)
+        (λ same. out_as_asked s.geometry (opening s) v script a page kind then f fits going is (ap (λ (g : ℕ). out_for then g) same ∙ out_here))
+        (λ ne. out_still st f then a.left a.back (out_other f ne) (was_out f (subst (λ (x : Option HandFrame). IsSome x) (my_frame f ne) some)))
+
+    pub lease_placed : (n : ℕ) → n ≡ i → AreFramesPlaced s (record {
+      snapshot = record { words = m.snapshot.words; views = views };
+      owners = set m.owners n (owner_after a (heard.Leased (record { 0 = l.frame })));
+      journal = journal;
+    })
+    lease_placed n place = placed_later s m p.frames i below (owner_after a (heard.Leased (record { 0 = l.frame }))) n place views others_then journal l.frame (moved n place)
+        (λ had. absurd (not_none _ had gone), λ q. absurd (none-some _ (sym q.0 ∙ out_here)))
+        (λ f some. out_then (heard.Leased (record { 0 = l.frame })) then f (in_hand_then f some))

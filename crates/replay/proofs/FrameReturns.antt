@@ -1,0 +1,220 @@
+-- A frame given back goes from the owner's hand to the free frames, and is out no more.
+use Rattle.std.proofs.Common.{◌≡◌, ◌≢◌, ℕ, suc, ◌<◌, ◌≤◌, Bool, true, false, List, [], ◌∷◌, ◌++◌, length, length-set, get_or, get_or-set_same, get_or-set_other, set, slice_get, sym, refl, ap, ◌∙◌, subst, inr, arith, Option, Some, None, IsSome}
+use Rattle.std.proofs.lemmas.Option.{get_or_from_slice_get, slice_get-get_or}
+use mathlib.Core.Logic.{dite}
+use native.Mathlib.Decide.{ℕ_discrete}
+use Rattle.evac_model.specs.declared.names.FrameNo.{FrameNo}
+use Rattle.evac_model.specs.declared.names.PageNo.{PageNo}
+use Rattle.evac_model.specs.declared.call.Call.{Call}
+use Rattle.evac_model.specs.declared.scenario.Scenario.{Scenario}
+use Rattle.evac_model.specs.declared.space.SpaceAction.{SpaceAction}
+use Rattle.evac_model.specs.declared.space.SpaceAction.TheVariants as space
+use Rattle.evac_model.specs.Geometry.{Sizes, frame_count}
+use Rattle.evac_model.specs.ScenarioGrammar.{online_of}
+use Rattle.evac_model.specs.Scenarios.{IsRunnable}
+use Rattle.evac_model.specs.Scripts.{script_of}
+use Rattle.evac_model.specs.SpaceJournal.{SpaceState, out_for, is_frame_in, after_action, space_at_start, IsPossibleJournal}
+use Rattle.evac_words.specs.Word.{mapped_bit, frame_of, bit_of}
+use Rattle.core_state.specs.declared.hand.HandFrame.{HandFrame}
+use Rattle.core_state.specs.declared.opening.Opening.{Opening}
+use Rattle.core_state.specs.declared.view.View.{View}
+use Rattle.core_state.specs.Words.{entry_word_of}
+use Rattle.core_state.specs.Views.{Has, view_of, spent, hand_frame, times_in_hand}
+use Rattle.core_state.specs.HandOvers.{IsAtRest, hand_without, hand_with, views_after_hand_over}
+use Rattle.core_state.proofs.Frames.{frame_once, maps_le, maps_to-one}
+use Rattle.core_state.proofs.Lists.{within, member_le_sum_by, two_members_le_sum_by}
+use Rattle.core_moves.proofs.Moves.{for_some_frame, in_range}
+use Rattle.core_actors.specs.declared.action.Action.TheVariants as actions
+use Rattle.core_actors.specs.declared.action.Heard.TheVariants.{Nothing}
+use Rattle.core_actors.specs.declared.action.LeaseSeen.{LeaseSeen}
+use Rattle.core_actors.specs.declared.action.SpaceCall.TheVariants.{Return}
+use Rattle.core_actors.specs.Fits.{hand_from, IsHandFor, HasInHand, Fits}
+use Rattle.core_actors.specs.Owners.{OwnerState, owner_ended, next_action, owner_after}
+use Rattle.core_actors.proofs.ActionKinds.{kind_at}
+use Rattle.core_actors.proofs.AtRest.{return_allowed}
+use Rattle.core_actors.proofs.FitActions.{no_return}
+use Rattle.core_actors.proofs.HandSteps.{hand_without_one, hand_with_one}
+use Rattle.space.proofs.Journals.{space_after-append}
+use Rattle.space.proofs.SpaceLaws.{possible_goes_on}
+use Rattle.space.specs.SpaceInside.{IsSpace}
+use Rattle.replay.specs.Keeping.{IsKept}
+use Rattle.replay.specs.Machine.{Machine, free_seat, space_at}
+use Rattle.replay.specs.Runs.{opening, setting}
+use Rattle.replay.specs.FramesOut.{HasFrame, space_now, AreFramesPlaced}
+use Rattle.replay.proofs.FramesAfter.{IsMoved, placed_later}
+use Rattle.replay.proofs.OutForCalls.{not_none, is_out}
+use Rattle.replay.proofs.SpaceNow.{space_is}
+
+-- ---- which frame it is
+
+module _ (s : Sizes) (o : Opening) (v : View) (script : List (PageNo × Call)) (owner cells : ℕ) (lease : LeaseSeen) (found : ℕ) (loads : List ℕ) (made : ℕ) (frame : FrameNo) where
+  abbrev state : List (PageNo × Call) → Option FrameNo → OwnerState
+  state left back = record { owner = owner; cells = cells; left = left; lease = lease; found = found; loads = loads; made = made; back = back }
+
+  back_from : (left : List (PageNo × Call)) (back : Option FrameNo) → Fits s o script v (state left back) → next_action (state left back) ≡ actions.Space (Return frame) → back ≡ Some frame
+  back_from left (Some g) fits is = let same : g ≡ frame = cc in ap (λ (f : FrameNo). Some f) same
+  back_from [] None fits is = absurd (cc)
+  back_from (c ∷ cs) None fits is = absurd (no_return cells c lease found loads made frame is (kind_at cells c lease found loads s (fits.calls.0).call made fits.under_way.call.0))
+
+-- it is the one that was to be given back
+back_is : (s : Sizes) (o : Opening) (v : View) (script : List (PageNo × Call)) (a : OwnerState) (frame : FrameNo) → Fits s o script v a → next_action a ≡ actions.Space (Return frame) → a.back ≡ Some frame
+back_is s o v script a frame fits is = back_from s o v script a.owner a.cells a.lease a.found a.loads a.made frame a.left a.back fits is
+
+-- ---- the return
+
+module _ (s : Scenario) (m : Machine) (r : IsRunnable s) (p : IsKept s m) (i : ℕ) (a : OwnerState) (v : View) (at : slice_get m.owners i ≡ Some a) (has : Has m.snapshot.views (suc i) v) (going : owner_ended a ≡ false)
+    (frame : FrameNo) (is : next_action a ≡ actions.Space (Return frame)) where
+  abbrev st : SpaceState
+  st = space_now s m
+
+  abbrev script : List (PageNo × Call)
+  script = script_of s.owners (suc i)
+
+  fits : Fits s.geometry (opening s) script v a
+  fits = (p.seats.fits i a v at has).1
+
+  may : IsAtRest (opening s) v × IsSome (hand_frame v frame.0)
+  may = return_allowed s.geometry (opening s) v script a frame fits going is
+
+  below : i < length m.owners
+  below = within m.owners i a at
+
+  abbrev free : ℕ
+  free = free_seat (length m.owners)
+
+  is_space : IsSpace s.geometry (online_of s) st
+  is_space = space_is s m r p.frames
+
+  was_out : out_for st frame.0 ≢ None
+  was_out = is_out st frame.0 a.left a.back (p.frames.in_hand i a frame.0 at (subst (λ (w : View). IsSome (hand_frame w frame.0)) (sym (get_or_from_slice_get m.snapshot.views (suc i) v spent has)) may.1))
+
+  low : frame.0 < frame_count s.geometry
+  low = let q = for_some_frame (hand_frame v frame.0) (IsHandFor a.left a) (subst (λ (x : Option FrameNo). HasInHand v (hand_from x a) (IsHandFor a.left a)) (back_is s.geometry (opening s) v script a frame fits is) fits.hand).1 in
+      in_range (opening s) v frame.0 q.0 fits.seated q.1
+
+  -- no other frame is in the owner's hand
+  alone : (f : ℕ) → f ≢ frame.0 → hand_frame v f ≡ None
+  alone = (subst (λ (x : Option FrameNo). HasInHand v (hand_from x a) (IsHandFor a.left a)) (back_is s.geometry (opening s) v script a frame fits is) fits.hand).0
+
+  -- it lies in no offline block
+  plugged : (b : Bool) → is_frame_in s.geometry st.offline frame.0 ≡ b → is_frame_in s.geometry st.offline frame.0 ≡ false
+  plugged true e = absurd (was_out (is_space.emptied frame.0 e))
+  plugged false e = e
+
+  -- ---- nobody else has it
+
+  once : times_in_hand frame.0 v ≡ 1
+  once = ap (λ (b : Bool). bit_of b) may.1
+
+  unmapped : (page : ℕ) → page < s.geometry.pages → mapped_bit (entry_word_of m.snapshot.words page) ≡ 1 → frame_of (entry_word_of m.snapshot.words page) ≢ frame.0
+  unmapped page there on same =
+      let k = p.seats.sound in
+      let one = maps_to-one frame.0 (entry_word_of m.snapshot.words page) on same in
+      let mapped = maps_le (opening s) m.snapshot.words m.snapshot.views k.shaped k.turn k.frames frame.0 page there in
+      let hand = member_le_sum_by (λ w. times_in_hand frame.0 w) m.snapshot.views (suc i) v has in
+      let both = frame_once (opening s) m.snapshot.words m.snapshot.views k.shaped k.turn k.frames frame.0 in
+      let mine = once in
+      absurd (omega arith)
+
+  in_no_hand : (j : ℕ) (b : OwnerState) → j ≢ i → slice_get m.owners j ≡ Some b → ¬ HasFrame m (suc j) frame.0
+  in_no_hand j b ne at_j had =
+      let k = p.seats.sound in
+      let there : suc j < length m.snapshot.views = let x = p.seats.seats in let y = p.seats.owners in let z = within m.owners j b at_j in omega arith in
+      let other : times_in_hand frame.0 (view_of m.snapshot.views (suc j)) ≡ 1 = ap (λ (b : Bool). bit_of b) had in
+      let hands = two_members_le_sum_by (λ w. times_in_hand frame.0 w) m.snapshot.views (suc i) (suc j) v (view_of m.snapshot.views (suc j)) (λ e. ne (omega arith)) has (slice_get-get_or m.snapshot.views (suc j) spent there) in
+      let both = frame_once (opening s) m.snapshot.words m.snapshot.views k.shaped k.turn k.frames frame.0 in
+      let mine = once in
+      absurd (omega arith)
+
+  -- ---- the space then
+
+  abbrev journal : List SpaceAction
+  journal = m.journal ++ space.Return (suc i) frame ∷ []
+
+  abbrev then : SpaceState
+  then = space_at (setting s) journal
+
+  behind : then ≡ after_action s.geometry (online_of s) st (space.Return (suc i) frame)
+  behind = space_after-append s.geometry (online_of s) (space_at_start s.geometry s.start) m.journal (space.Return (suc i) frame)
+
+  out_here : out_for then frame.0 ≡ None
+  out_here = let lt = low in let long = is_space.out in ap (λ (x : SpaceState). out_for x frame.0) behind ∙ get_or-set_same st.out frame.0 None None (omega arith)
+
+  out_other : (f : ℕ) → f ≢ frame.0 → out_for then f ≡ out_for st f
+  out_other f ne = ap (λ (x : SpaceState). out_for x f) behind ∙ get_or-set_other st.out frame.0 f None None ne
+
+  offline_still : then.offline ≡ st.offline
+  offline_still = ap (λ (x : SpaceState). x.offline) behind
+
+  possible : IsPossibleJournal s.geometry (online_of s) (space_at_start s.geometry s.start) journal
+  possible =
+      let few : suc i ≤ 16 = let x = r.owners in let y = p.seats.owners in let z = below in omega arith in
+      (possible_goes_on s.geometry (online_of s) (space_at_start s.geometry s.start) m.journal (space.Return (suc i) frame)).1 (p.frames.possible, (few, was_out))
+
+  -- ---- the hands then
+
+  abbrev receiver : View
+  receiver = view_of m.snapshot.views free
+
+  abbrev views : List View
+  views = views_after_hand_over m.snapshot.views (suc i) free v receiver frame.0 1
+
+  free_there : free < length m.snapshot.views
+  free_there = let x = p.seats.seats in let y = p.seats.owners in omega arith
+
+  free_long : length receiver.hand ≡ frame_count s.geometry
+  free_long = let y = p.seats.owners in (p.seats.others free receiver (slice_get-get_or m.snapshot.views free spent free_there) (inr (omega arith))).rests.seated.hand
+
+  abbrev given : View
+  given = record v { hand = hand_without v.hand frame.0 1 }
+
+  abbrev got : View
+  got = record receiver { hand = hand_with receiver.hand v.hand frame.0 1 }
+
+  others_then : (seat : ℕ) → seat ≢ suc i → seat ≢ free → view_of views seat ≡ view_of m.snapshot.views seat
+  others_then seat ne other = get_or-set_other (set m.snapshot.views (suc i) given) free seat got spent other ∙ get_or-set_other m.snapshot.views (suc i) seat given spent ne
+
+  free_then : view_of views free ≡ got
+  free_then = get_or-set_same (set m.snapshot.views (suc i) given) free got spent (let x = length-set m.snapshot.views (suc i) given in let y = free_there in omega arith)
+
+  mine_then : view_of views (suc i) ≡ given
+  mine_then = get_or-set_other (set m.snapshot.views (suc i) given) free (suc i) got spent (λ q. let lt = below in absurd (omega arith)) ∙ get_or-set_same m.snapshot.views (suc i) given spent (within m.snapshot.views (suc i) v has)
+
+  given_hand : hand_without v.hand frame.0 1 ≡ set v.hand frame.0 None
+  given_hand = hand_without_one v.hand frame.0 (let lt = low in let long = fits.seated.hand in omega arith)
+
+  got_hand : hand_with receiver.hand v.hand frame.0 1 ≡ set receiver.hand frame.0 (hand_frame v frame.0)
+  got_hand = hand_with_one v.hand receiver.hand frame.0 (let lt = low in let long = fits.seated.hand in omega arith) (let lt = low in let long = free_long in omega arith)
+
+  free_frame : (f : ℕ) → hand_frame (view_of views free) f ≡ get_or (set receiver.hand frame.0 (hand_frame v frame.0)) f None
+  free_frame f = ap (λ (w : View). hand_frame w f) free_then ∙ ap (λ (h : List (Option HandFrame)). get_or h f None) got_hand
+
+  my_frame : (f : ℕ) → hand_frame (view_of views (suc i)) f ≡ get_or (set v.hand frame.0 None) f None
+  my_frame f = ap (λ (w : View). hand_frame w f) mine_then ∙ ap (λ (h : List (Option HandFrame)). get_or h f None) given_hand
+
+  free_has : IsSome (hand_frame (view_of views free) frame.0)
+  free_has = subst (λ (x : Option HandFrame). IsSome x) (sym (free_frame frame.0 ∙ get_or-set_same receiver.hand frame.0 (hand_frame v frame.0) None (let lt = low in let long = free_long in omega arith))) may.1
+
+  -- the owner's hand is empty
+  empty_then : (f : ℕ) → hand_frame (view_of views (suc i)) f ≡ None
+  empty_then f = dite (ℕ_discrete f frame.0)
+      (λ e. ap (λ (g : ℕ). hand_frame (view_of views (suc i)) g) e ∙ (my_frame frame.0 ∙ get_or-set_same v.hand frame.0 None None (let lt = low in let long = fits.seated.hand in omega arith)))
+      (λ ne. my_frame f ∙ (get_or-set_other v.hand frame.0 f None None ne ∙ alone f ne))
+
+  -- ---- the frames then
+
+  moved : (n : ℕ) (place : n ≡ i) → IsMoved s m p.frames i below (owner_after a Nothing) n place views others_then journal frame.0
+  moved n place = record {
+    possible = possible;
+    offline = offline_still;
+    out = out_other;
+    free = λ f ne. free_frame f ∙ get_or-set_other receiver.hand frame.0 f (hand_frame v frame.0) None ne;
+    unmapped = unmapped;
+    in_no_hand = in_no_hand;
+  }
+
+  -- `n` is the place of the owner
+  pub return_placed : (n : ℕ) → n ≡ i → AreFramesPlaced s (record { snapshot = record { words = m.snapshot.words; views = views }; owners = set m.owners n (owner_after a Nothing); journal = journal })
+  return_placed n place = placed_later s m p.frames i below (owner_after a Nothing) n place views others_then journal frame.0 (moved n place)
+      (λ had. (out_here, ap (λ (l : List ℕ). is_frame_in s.geometry l frame.0) offline_still ∙ plugged (is_frame_in s.geometry st.offline frame.0) refl), λ q. free_has)
+      (λ f some. absurd (not_none _ some (empty_then f)))
