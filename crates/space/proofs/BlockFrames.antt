@@ -3,7 +3,7 @@ use Rattle.std.proofs.Common.{◌≡◌, ℕ, ◌+◌, ◌*◌, ◌<◌, ◌≤�
 use Rattle.std.specs.List.{list_any, filter, range_with_len}
 use Rattle.std.proofs.Math.Dec.{eqb}
 use Rattle.std.proofs.lemmas.Bool.{eqb-true, eq-eqb, ne_eqb, cases_lt, cases_Bool, or_left, or_right, or_cases, false≢true, and_parts, and_from}
-use Rattle.evac_model.specs.Geometry.{Sizes, first_frame, frame_count}
+use Rattle.evac_model.specs.Geometry.{Sizes, first_frame}
 use Rattle.evac_model.specs.Numbers.{numbers_where, is_in, IsRisingBelow}
 use Rattle.evac_model.specs.SpaceJournal.{is_frame_of, is_frame_in, with_block, without_block}
 use Rattle.evac_model.proofs.Numbers.{numbers_agree, is_in-numbers_where, is_in-numbers_where_past}
@@ -59,12 +59,6 @@ same_block s a b f ha hb = elim (cases_lt a b) [
     | inr h ↦ omega arith
   ]
 ]
-
--- a frame of a managed block is one of the machine's
-pub frame_in_count : (s : Sizes) (b f : ℕ) → b < s.managed → is_frame_of s b f ≡ true → f < frame_count s
-frame_in_count s b f l h =
-    let last : (s.boot + b + 1) * s.block ≤ (s.boot + s.managed) * s.block = product_le (s.boot + b + 1) (s.boot + s.managed) s.block (omega arith) in
-    omega (arith, frame_below s b f h, last)
 
 -- two tests that agree on a list's numbers
 any_agree : (p q : ℕ → Bool) (xs : List ℕ) → ((b : ℕ) → p b ≡ q b) → list_any p xs ≡ list_any q xs

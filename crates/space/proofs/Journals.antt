@@ -6,16 +6,16 @@ use Rattle.std.specs.Result.{is_err, OnOk}
 use Rattle.std.proofs.Math.Dec.{eqb}
 use Rattle.std.proofs.Math.ListN.{set}
 use Rattle.std.proofs.lemmas.Bool.{ne_eqb, eq-eqb, false≢true}
-use Rattle.std.proofs.lemmas.List.Sums.{sum_by-set, count_by-le-length}
+use Rattle.std.proofs.lemmas.List.Sums.{sum_by-set}
 use Rattle.evac_model.specs.declared.names.BlockNo.{BlockNo}
 use Rattle.evac_model.specs.declared.names.FrameNo.{FrameNo}
 use Rattle.evac_model.specs.declared.names.Kind.{Kind}
 use Rattle.evac_model.specs.declared.space.SpaceAction.{SpaceAction}
 use Rattle.evac_model.specs.declared.space.SpaceAction.TheVariants.{Return, Isolate, Undo, Offline, Online}
-use Rattle.evac_model.specs.Geometry.{Sizes, IsWithinLimits}
+use Rattle.evac_model.specs.Geometry.{Sizes}
 use Rattle.evac_model.specs.Numbers.{numbers_where, is_in, IsRisingBelow}
 use Rattle.evac_model.specs.SpaceJournal.{SpaceState, Out, out_for, with_block, without_block, after_action, space_after, IsPossible, IsPossibleJournal}
-use Rattle.evac_model.proofs.Numbers.{length-numbers_where, length-numbers_where_more}
+use Rattle.evac_model.proofs.Numbers.{length-numbers_where_more}
 use Rattle.space.specs.JournaledSpace.{JournaledSpace, state_of}
 use Rattle.space.specs.KeptSpace.{KeptSpace, behind}
 use Rattle.space.specs.KeptJournal.{IsLeftBy}
@@ -137,12 +137,6 @@ owed_online k owed b next space h there e =
     let some : 1 ≤ owed = omega (arith, h, fewer, fewer_isolated, few) in
     let P : KeptSpace → Type 0 = λ x. (1 ≤ owed) × IsOwed x.state (owed - 1) in
     subst P (sym e) (some, omega (arith, h, fewer, fewer_isolated, some))
-
--- they are few
-pub owed_small : (k : KeptSpace) (owed : ℕ) → IsWithinLimits k.sizes → IsSpace k.sizes k.online k.state → IsOwed k.state owed → owed ≤ 200000
-owed_small k owed w space h =
-    let isolated : length k.state.isolated ≤ k.sizes.managed = omega (arith, ap length space.isolated, length-numbers_where (λ (b : ℕ). is_in b k.state.isolated) k.sizes.managed) in
-    omega (arith, h, count_by-le-length is_some k.state.out, space.out, w.frames, isolated, w.managed.1)
 
 -- the same, as the journal tells it
 pub return_owed : (v : JournaledSpace) (k : KeptSpace) (used owed room who : ℕ) (frame : FrameNo) (next : KeptSpace) → IsLeftBy v k used owed room → IsSpace k.sizes k.online k.state → out_for (state_of v) frame.0 ≢ None → next ≡ behind (Return who frame) k → (1 ≤ owed) × IsOwed next.state (owed - 1)

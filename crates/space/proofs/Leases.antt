@@ -4,10 +4,10 @@ use Rattle.std.specs.Prelude.{Option, None, Some}
 use Rattle.std.specs.Option.{option_or}
 use Rattle.std.specs.List.{filter, list_any, concat, range_with_len}
 use Rattle.std.proofs.Math.Dec.{eqb}
-use Rattle.std.proofs.lemmas.Bool.{cases_lt, cases_eq, eqb-true, eq-eqb, or_cases, or_left, or_right, and_parts, and_right, leb-true, ltb-true, not_from_true, both_ways}
+use Rattle.std.proofs.lemmas.Bool.{cases_eq, eqb-true, eq-eqb, or_cases, or_left, or_right, and_parts, and_right, leb-true, ltb-true, not_from_true, both_ways}
 use Rattle.std.proofs.lemmas.Option.{same_Some}
 use Rattle.std.proofs.lemmas.Nat.{pow_pos}
-use Rattle.std.proofs.lemmas.List.{get_or-set_same, get_or-set_other, set_past, length-set}
+use Rattle.std.proofs.lemmas.List.{get_or-set_same, get_or-set_other, length-set}
 use Rattle.std.proofs.lemmas.List.FromFn.{length-range_with_len}
 use Rattle.evac_model.specs.declared.names.Kind.{Kind}
 use Rattle.evac_model.specs.declared.names.Kind.TheVariants.{Movable, Unmovable}
@@ -19,6 +19,7 @@ use Rattle.buddy.proofs.FreeRunLaws.{no_choice}
 use Rattle.frame_cache.specs.Drains.{AreCaches, AreDistinct}
 use Rattle.space.specs.JournaledSpace.{JournaledSpace, state_of, IsLeasableFor}
 use Rattle.space.specs.SpaceInside.{IsSpace}
+use Rattle.space.proofs.CachesBehind.{set_caches}
 use Rattle.space.proofs.Members.{any-filter, get_or-filter_each, any-set_in, any-set_rest, any-rest_none, any-get_or, is_in-range_with_len, distinct-set, distinct-range_with_len, distinct-get_or}
 use Rattle.space.proofs.Spaces.{IsFreeFrame, free_frame, free_frame_in, one_free, drained_space}
 use Rattle.space.proofs.Choices.{IsChosenRun, chosen, few_frames}
@@ -27,7 +28,7 @@ pub record IsGoodLease (s : Sizes) (online : Kind) (st : SpaceState) (kind : Kin
   pub kept : (page : ℕ) → IsSpace s online (after_lease st (Some l) page kind)
   pub leasable : IsLeasable s online st kind l.frame
 
--- ---- caches with a list in another's place
+-- ---- a test that some block of a list passes
 
 any_from : (p : ℕ → Bool) (b : ℕ) (xs : List ℕ) → is_in b xs ≡ true → p b ≡ true → list_any p xs ≡ true
 any_from p b [] there passes = there
@@ -44,22 +45,6 @@ any_more p (x ∷ xs) ys more h =
       | inl here ↦ any_from p x ys (more x (or_left _ _ (eq-eqb x x refl))) here
       | inr rest ↦ any_more p xs ys (λ b there. more b (or_right _ _ there)) rest
     ]
-
-set_caches : (caches : List (List ℕ)) (who : ℕ) (xs : List ℕ) → AreCaches caches → length xs ≤ 8 → AreCaches (set caches who xs)
-set_caches caches who xs h few = record {
-  callers = length-set caches who xs ∙ h.callers;
-  few = λ k. elim (cases_eq k who) [
-    | inl e ↦ elim (cases_lt who (length caches)) [
-      | inl l ↦
-          let here : get_or (set caches who xs) k [] ≡ xs = ap (λ (i : ℕ). get_or (set caches who xs) i []) e ∙ get_or-set_same caches who xs [] l in
-          omega (arith, ap (λ (ys : List ℕ). length ys) here, few)
-      | inr g ↦
-          omega (arith, ap (λ (cs : List (List ℕ)). length (get_or cs k [])) (set_past caches who xs g), h.few k)
-    ]
-    | inr other ↦
-        omega (arith, ap (λ (ys : List ℕ). length ys) (get_or-set_other caches who k xs [] other), h.few k)
-  ];
-}
 
 -- ---- a lease of a frame that isn't cached any more
 

@@ -1,4 +1,4 @@
-pub mod ListMembers
+pub mod Members
 pub mod BlockFrames
 pub mod CachesBehind
 pub mod RunsOfSpaces
@@ -7,7 +7,6 @@ pub mod KeptSpaces
 pub mod Opens
 pub mod Journals
 pub mod Refused
-pub mod Members
 pub mod Puts
 pub mod Spaces
 pub mod Choices

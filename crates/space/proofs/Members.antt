@@ -1,7 +1,8 @@
 -- Which numbers stand in which lists of lists.
-use Rattle.std.proofs.Common.{◌≡◌, ℕ, zero, suc, ◌+◌, ◌<◌, Bool, true, false, cond, ◌&&◌, ◌||◌, List, [], ◌∷◌, ◌++◌, map, length, get_or, set, refl, sym, ap, subst, ◌∙◌, arith, ◌⊎◌, inl, inr}
+use Rattle.std.proofs.Common.{◌≡◌, ℕ, zero, suc, ◌+◌, ◌<◌, Bool, true, false, cond, ◌&&◌, ◌||◌, List, [], ◌∷◌, ◌++◌, map, take, drop, length, get_or, set, refl, sym, ap, subst, ◌∙◌, arith, ◌⊎◌, inl, inr}
 use Rattle.std.specs.List.{filter, list_any, concat, range_with_len}
 use Rattle.std.proofs.Math.Dec.{eqb}
+use Rattle.std.proofs.lemmas.List.{take-append-drop}
 use Rattle.std.proofs.lemmas.List.Elements.{filter-append}
 use Rattle.std.proofs.lemmas.Bool.{cases_lt, cases_order, eqb-true, eq-eqb, ne_eqb, or_parts, or_cases, or_from, or_left, or_right, and_left, both_ways, false_from_ne_true, true≢false}
 use Rattle.evac_model.specs.Numbers.{is_in, is_between}
@@ -209,3 +210,31 @@ pub distinct-get_or : (xss : List (List ℕ)) (who : ℕ) → AreDistinct (conca
 distinct-get_or [] who d = tt
 distinct-get_or (xs ∷ xss) zero d = distinct_left xs (concat xss) d
 distinct-get_or (xs ∷ xss) (suc who) d = distinct-get_or xss who (distinct_right xs (concat xss) d)
+
+-- where the new list has a number as the old one did, so do all lists
+pub any-set_same : (f : ℕ) (xss : List (List ℕ)) (who : ℕ) (xs : List ℕ) → is_in f xs ≡ is_in f (get_or xss who []) → list_any (is_in f) (set xss who xs) ≡ list_any (is_in f) xss
+any-set_same f [] who xs e = refl
+any-set_same f (ys ∷ yss) zero xs e = ap (λ (t : Bool). t || list_any (is_in f) yss) e
+any-set_same f (ys ∷ yss) (suc who) xs e = ap (λ (t : Bool). is_in f ys || t) (any-set_same f yss who xs e)
+
+-- a number of the new list
+pub any-set_new : (f : ℕ) (xss : List (List ℕ)) (who : ℕ) (xs : List ℕ) → who < length xss → is_in f xs ≡ true → list_any (is_in f) (set xss who xs) ≡ true
+any-set_new f [] who xs l e = absurd (omega arith)
+any-set_new f (ys ∷ yss) zero xs l e = or_left _ _ e
+any-set_new f (ys ∷ yss) (suc who) xs l e = or_right _ _ (any-set_new f yss who xs (omega arith) e)
+
+-- a number that only the old list had, and that the new one hasn't
+pub any-set_gone : (f : ℕ) (xss : List (List ℕ)) (who : ℕ) (xs : List ℕ) → AreDistinct (concat xss) → is_in f (get_or xss who []) ≡ true → is_in f xs ≡ false → list_any (is_in f) (set xss who xs) ≡ false
+any-set_gone f [] who xs d there e = absurd (true≢false (sym there))
+any-set_gone f (ys ∷ yss) zero xs d there e =
+    or_from _ _ e (sym (is_in-concat f yss) ∙ false_from_ne_true (is_in f (concat yss)) (λ t. both_ways (is_in f ys) (distinct_apart f ys (concat yss) d t) there))
+any-set_gone f (ys ∷ yss) (suc who) xs d there e =
+    or_from _ _ (distinct_apart f ys (concat yss) d (is_in-concat f yss ∙ any-get_or f yss who there)) (any-set_gone f yss who xs (distinct_right ys (concat yss) d) there e)
+
+-- the first numbers of a list
+pub is_in_take : (f n : ℕ) (xs : List ℕ) → is_in f (take n xs) ≡ true → is_in f xs ≡ true
+is_in_take f n xs h =
+    ap (is_in f) (sym (take-append-drop n xs)) ∙ is_in-append f (take n xs) (drop n xs) ∙ or_left _ _ h
+
+pub distinct-take : (n : ℕ) (xs : List ℕ) → AreDistinct xs → AreDistinct (take n xs)
+distinct-take n xs d = distinct_left (take n xs) (drop n xs) (subst AreDistinct (sym (take-append-drop n xs)) d)

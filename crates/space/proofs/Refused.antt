@@ -1,10 +1,8 @@
 -- Why an action is refused, and that it is possible where it isn't.
-use Rattle.std.proofs.Common.{◌≡◌, ◌≢◌, ℕ, zero, suc, ◌+◌, ◌<◌, ◌≤◌, Bool, true, false, cond, List, [], ◌∷◌, get_or, refl, sym, ap, ◌∙◌, subst, arith, inl, inr, Option, Some, None, Ok, Err}
+use Rattle.std.proofs.Common.{◌≡◌, ℕ, zero, suc, ◌+◌, ◌<◌, ◌≤◌, Bool, true, false, cond, List, [], ◌∷◌, get_or, refl, sym, ap, ◌∙◌, subst, arith, inl, inr, Option, Some, None, Ok}
 use Rattle.std.specs.List.{filter}
 use Rattle.std.proofs.lemmas.Bool.{cases_eq, false≢true}
-use Rattle.evac_model.specs.declared.names.Kind.{Kind}
-use Rattle.evac_model.specs.declared.names.Kind.TheVariants.{Movable, Unmovable}
-use Rattle.evac_model.specs.declared.space.Unmovable.{Unmovable as UnmovableFrame}
+use Rattle.evac_model.specs.declared.names.Kind.TheVariants.{Unmovable}
 use Rattle.evac_model.specs.Geometry.{Sizes, first_frame}
 use Rattle.evac_model.specs.SpaceJournal.{SpaceState, Out, IsEmptied, HasMovableAlone}
 use Rattle.buddy.specs.FreeFrames.{FreeFrames}
@@ -13,7 +11,7 @@ use Rattle.space.specs.JournaledSpace.{JournaledSpace, state_of}
 use Rattle.space.specs.KeptSpace.{KeptSpace, AreOf}
 use Rattle.space.specs.KeptJournal.{IsLeftBy}
 use Rattle.space.specs.Refusals.{frames_out_of, emptiness}
-use Rattle.space.proofs.BlockFrames.{frame_from, frame_below, in_block}
+use Rattle.space.proofs.BlockFrames.{frame_from, frame_below}
 use Rattle.space.proofs.KeptSpaces.{emptied_from}
 
 -- a block that isn't refused is empty

@@ -1,11 +1,11 @@
 -- What is free and what is kept aside in a space: behind a drain of the caches, and behind a lease.
-use Rattle.std.proofs.Common.{◌≡◌, ℕ, zero, suc, ◌+◌, ◌-◌, ◌*◌, ◌%◌, ◌^◌, ◌<◌, ◌≤◌, Bool, true, false, cond, not, ◌&&◌, ◌||◌, List, [], ◌∷◌, map, length, get_or, set, refl, sym, ap, ◌∙◌, arith, inl, inr}
+use Rattle.std.proofs.Common.{◌≡◌, ℕ, zero, suc, ◌+◌, ◌-◌, ◌*◌, ◌%◌, ◌^◌, ◌<◌, ◌≤◌, Bool, true, false, not, ◌&&◌, ◌||◌, List, [], ◌∷◌, map, length, get_or, set, refl, sym, ap, ◌∙◌, arith, inl, inr}
 use Rattle.std.specs.Prelude.{Option, None, Some}
 use Rattle.std.specs.Option.{is_some}
 use Rattle.std.specs.List.{filter, list_any, range_with_len}
 use Rattle.std.proofs.Math.Dec.{eqb}
 use Rattle.std.proofs.lemmas.Bool.{cases_lt, cases_eq, eq-eqb, ne_eqb, eqb-true, and_parts, and_from, and_right, or_left, le-leb, lt-ltb, not-true, not_from_false, not_from_true, both_ways, false_from_ne_true}
-use Rattle.std.proofs.lemmas.List.{get_or-set_same, get_or-set_other, length-map}
+use Rattle.std.proofs.lemmas.List.{get_or-set_same, get_or-set_other}
 use Rattle.evac_model.specs.declared.names.Kind.{Kind}
 use Rattle.evac_model.specs.Geometry.{Sizes, frame_count}
 use Rattle.evac_model.specs.Numbers.{numbers_where, is_in, is_between}
@@ -14,7 +14,8 @@ use Rattle.evac_model.specs.SpaceJournal.{SpaceState, Out, Leased, out_for, is_f
 use Rattle.evac_model.proofs.Numbers.{numbers_agree, is_in-numbers_where, is_in-numbers_where_past}
 use Rattle.buddy.specs.FreeFrames.{with_frames, after_take}
 use Rattle.space.specs.SpaceInside.{IsSpace, aside_frames, runs_of}
-use Rattle.space.proofs.Members.{any-filter, filter_each_all, get_or-filter_each, distinct-filter_each, any-set_empty, any-set_rest, any-get_or, is_in-range_with_len, range_more, range_none}
+use Rattle.space.proofs.CachesBehind.{caches_filtered}
+use Rattle.space.proofs.Members.{any-filter, filter_each_all, distinct-filter_each, any-set_empty, any-set_rest, any-get_or, is_in-range_with_len, range_more, range_none}
 
 -- a frame that is free
 pub record IsFreeFrame (s : Sizes) (st : SpaceState) (f : ℕ) : Type 0 where
@@ -101,14 +102,6 @@ drained_runs s online kind st h =
     ∙ aside_drained (out f) (isolated f) (cached f) (fits s online kind f) (h.cached_not_isolated f)) in
     λ i. record (runs_of s online st) { free = free i; aside = aside i }
 
-length_cond_le : (b : Bool) (x : ℕ) (xs : List ℕ) (n : ℕ) → length xs ≤ n → length (cond b (x ∷ xs) xs) ≤ suc n
-length_cond_le true x xs n l = omega arith
-length_cond_le false x xs n l = omega arith
-
-length_filter_le : (t : ℕ → Bool) (xs : List ℕ) → length (filter t xs) ≤ length xs
-length_filter_le t [] = omega arith
-length_filter_le t (x ∷ xs) = length_cond_le (t x) x (filter t xs) (length xs) (length_filter_le t xs)
-
 pub drained_space : (s : Sizes) (online kind : Kind) (st : SpaceState) → IsSpace s online st → IsSpace s online (drained s online kind st)
 drained_space s online kind st h =
     let test : ℕ → Bool = λ f. not (fits s online kind f) in
@@ -121,10 +114,7 @@ drained_space s online kind st h =
       emptied = h.emptied;
       fitting = h.fitting;
       isolated_movable = h.isolated_movable;
-      caches = record {
-        callers = length-map st.caches (filter test) ∙ h.caches.callers;
-        few = λ who. omega (arith, ap (λ (xs : List ℕ). length xs) (get_or-filter_each test st.caches who), length_filter_le test (get_or st.caches who []), h.caches.few who);
-      };
+      caches = caches_filtered test st.caches h.caches;
       distinct = distinct-filter_each test st.caches h.distinct;
       cached_there = λ f t. h.cached_there f (was f t);
       cached_not_out = λ f t. h.cached_not_out f (was f t);

@@ -13,7 +13,7 @@ use Rattle.evac_model.specs.Numbers.{is_in}
 use Rattle.evac_model.specs.SpaceJournal.{SpaceState, Out, out_for, is_frame_of, is_frame_in, with_block, without_block, put_back, IsEmptied, HasMovableAlone}
 use Rattle.buddy.specs.FreeFrames.{with_frames, with_withdrawn, with_restored}
 use Rattle.space.specs.SpaceInside.{IsSpace, runs_of}
-use Rattle.space.proofs.ListMembers.{any-map-filter, distinct-map-filter}
+use Rattle.space.proofs.Members.{any-filter, distinct-filter_each}
 use Rattle.space.proofs.BlockFrames.{frame_in-with_block, frame_in-without_block, frame_in_from, is_in-with_block, is_in-without_block, is_in_bound, rising-with_block, rising-without_block}
 use Rattle.space.proofs.CachesBehind.{caches_filtered, caches_put_back, distinct_put_back, put_back_frame, put_back_other, put_back_kept, pushed_in, put_back_gone, put_back_from}
 use Rattle.space.proofs.RunsOfSpaces.{is_out, is_isolated, is_cached, is_free, is_aside, runs_are, runs_given, runs_withdrawn, runs_restored}
@@ -50,7 +50,7 @@ and_not false h = refl
 
 cached_drained : (s : Sizes) (b f : ℕ) (caches : List (List ℕ)) → list_any (is_in f) (map (filter (λ x. not (is_frame_of s b x))) caches) ≡ true → (list_any (is_in f) caches ≡ true) × (is_frame_of s b f ≡ false)
 cached_drained s b f caches h =
-    let parts : (list_any (is_in f) caches ≡ true) × (not (is_frame_of s b f) ≡ true) = and_parts _ _ (sym (any-map-filter f (λ x. not (is_frame_of s b x)) caches) ∙ h) in
+    let parts : (list_any (is_in f) caches ≡ true) × (not (is_frame_of s b f) ≡ true) = and_parts _ _ (sym (any-filter (λ x. not (is_frame_of s b x)) f caches) ∙ h) in
     (parts.0, and_not (is_frame_of s b f) parts.1)
 
 movable_else : (k : Kind) → (k ≡ Unmovable → ⊥) → k ≡ Movable
@@ -74,7 +74,7 @@ space_isolated s online st b h l alone = record {
     | inr new ↦ movable_out s st b f x alone new out
   ];
   caches = caches_filtered (λ x. not (is_frame_of s b x)) st.caches h.caches;
-  distinct = distinct-map-filter (λ x. not (is_frame_of s b x)) st.caches h.distinct;
+  distinct = distinct-filter_each (λ x. not (is_frame_of s b x)) st.caches h.distinct;
   cached_there = λ f c. h.cached_there f (cached_drained s b f st.caches c).0;
   cached_not_out = λ f c. h.cached_not_out f (cached_drained s b f st.caches c).0;
   cached_not_isolated = λ f c.
@@ -113,7 +113,7 @@ pub runs_drained : (s : Sizes) (online : Kind) (st : SpaceState) (b : ℕ) → I
 runs_drained s online st b h =
     runs_given s online st (drained_state s b st) (λ f. is_cached st f && is_frame_of s b f) refl
     (λ f l.
-    ap (λ (t : Bool). not (is_out st f) && not (is_isolated s st f) && not t) (any-map-filter f (λ x. not (is_frame_of s b x)) st.caches)
+    ap (λ (t : Bool). not (is_out st f) && not (is_isolated s st f) && not t) (any-filter (λ x. not (is_frame_of s b x)) f st.caches)
     ∙ free_drained (is_out st f) (is_isolated s st f) (is_cached st f) (is_frame_of s b f) (λ c. none_out _ (h.cached_not_out f c)) (h.cached_not_isolated f))
     (λ f l. aside_drained (is_out st f) (is_isolated s st f) (is_cached st f) (is_frame_of s b f) (h.cached_not_isolated f))
 
@@ -139,13 +139,13 @@ runs_isolated s online st b h l =
     runs_withdrawn s online (drained_state s b st) (isolated_state s b st) b refl
     (λ f lf.
     ap (λ (t : Bool). not (is_out st f) && not t && not (cached f)) (frame_in-with_block s b st.isolated f h.isolated l)
-    ∙ ap (λ (t : Bool). not (is_out st f) && not (is_isolated s st f || is_frame_of s b f) && not t) (any-map-filter f (λ x. not (is_frame_of s b x)) st.caches)
+    ∙ ap (λ (t : Bool). not (is_out st f) && not (is_isolated s st f || is_frame_of s b f) && not t) (any-filter (λ x. not (is_frame_of s b x)) f st.caches)
     ∙ free_withdrawn (is_out st f) (is_isolated s st f) (is_cached st f) (is_frame_of s b f)
-    ∙ ap (λ (t : Bool). (not (is_out st f) && not (is_isolated s st f) && not t) && not (is_frame_of s b f)) (sym (any-map-filter f (λ x. not (is_frame_of s b x)) st.caches)))
+    ∙ ap (λ (t : Bool). (not (is_out st f) && not (is_isolated s st f) && not t) && not (is_frame_of s b f)) (sym (any-filter (λ x. not (is_frame_of s b x)) f st.caches)))
     (λ f lf.
     ap (λ (t : Bool). not (is_out st f) && t) (frame_in-with_block s b st.isolated f h.isolated l)
     ∙ aside_withdrawn (is_out st f) (is_isolated s st f) (is_cached st f) (is_frame_of s b f)
-    ∙ ap (λ (t : Bool). (not (is_out st f) && is_isolated s st f) || ((not (is_out st f) && not (is_isolated s st f) && not t) && is_frame_of s b f)) (sym (any-map-filter f (λ x. not (is_frame_of s b x)) st.caches)))
+    ∙ ap (λ (t : Bool). (not (is_out st f) && is_isolated s st f) || ((not (is_out st f) && not (is_isolated s st f) && not t) && is_frame_of s b f)) (sym (any-filter (λ x. not (is_frame_of s b x)) f st.caches)))
 
 -- undo
 pub space_undone : (s : Sizes) (online : Kind) (st : SpaceState) (b : ℕ) → IsSpace s online st → is_in b st.offline ≡ false → IsSpace s online (undone_state b st)
@@ -355,7 +355,7 @@ space_returned s online st who frame h w ne iso = record {
   emptied = λ f there. still_not_out st.out frame f (h.emptied f there);
   fitting = λ f x e. h.fitting f x (still_out st.out frame f x e);
   isolated_movable = λ f x there e. h.isolated_movable f x there (still_out st.out frame f x e);
-  caches = caches_put_back st.caches who frame w h.caches;
+  caches = caches_put_back st.caches who frame h.caches;
   distinct = distinct_put_back st.caches who frame h.distinct (out_not_cached s online st frame h ne);
   cached_there = returned_cached s st who frame (λ f. f < frame_count s) (out_in_count s online st frame h ne) h.cached_there;
   cached_not_out = returned_cached s st who frame (λ f. get_or (set st.out frame None) f None ≡ None) (cleared_here st.out frame) (λ f c. still_not_out st.out frame f (h.cached_not_out f c));
