@@ -1,28 +1,35 @@
--- The machine at the start: its owners, their seats, and how these fit.
-use Rattle.std.proofs.Common.{◌≡◌, ℕ, zero, suc, ◌+◌, ◌&&◌, nat_lt, nat_le, if◌then◌else◌, List, [], ◌∷◌, ◌++◌, length, length-append, get_or, sum, refl, sym, ap, ◌∙◌, subst, arith, Option, Some, None}
+-- The seats at the start: how the owners fit theirs, and that the others are idle.
+use Rattle.std.proofs.Common.{◌≡◌, ℕ, zero, suc, ◌+◌, List, [], ◌∷◌, ◌++◌, length, length-append, replicate, get_or, sum, refl, sym, ap, ◌∙◌, subst, arith, Option, Some, None}
 use Rattle.std.specs.List.{AllByRecursion, slice_get}
 use Rattle.std.proofs.lemmas.List.{length-replicate}
 use Rattle.std.proofs.lemmas.List.Sums.{sum_by-cons}
 use Rattle.std.proofs.lemmas.Option.{same_Some, none-some}
 use Rattle.evac_model.specs.declared.names.PageNo.{PageNo}
 use Rattle.evac_model.specs.declared.call.Call.{Call}
-use Rattle.evac_model.specs.declared.call.Call.TheVariants.{Alloc, Free, Read, Write, Add, Pin, Unpin}
+use Rattle.evac_model.specs.declared.scenario.Scenario.{Scenario}
 use Rattle.evac_model.specs.declared.scenario.StartPage.{StartPage}
-use Rattle.evac_model.specs.Geometry.{Sizes, frame_count}
+use Rattle.evac_model.specs.Geometry.{Sizes, IsWithinLimits, frame_count}
 use Rattle.evac_model.specs.ScenarioGrammar.{call_count}
 use Rattle.evac_model.specs.ScenarioLines.{HasNumbers}
-use Rattle.evac_model.specs.Scenarios.{IsBuilt, IsOwnerCall}
+use Rattle.evac_model.specs.Scenarios.{IsOwnerCall, IsRunnable}
 use Rattle.evac_model.proofs.Lists.{all_weaker}
-use Rattle.evac_words.specs.Word.{frame_of}
 use Rattle.core_state.specs.declared.hand.HandFrame.{HandFrame}
+use Rattle.core_state.specs.declared.opening.Opening.{Opening}
 use Rattle.core_state.specs.declared.view.View.{View}
-use Rattle.core_state.specs.CoreOpens.{opening_of, owner_view, owner_views, scanner_view, keeper_views, opening_views}
-use Rattle.core_actors.specs.CallSteps.{IsCallOf, HasSteps, values_of}
-use Rattle.core_actors.specs.Fits.{past_loads, unmarked_for, HoldsFor, Fits}
+use Rattle.core_state.specs.CoreOpens.{opening_of, opening_words, empty_places, free_hand, unplugged_hand, driver_view, owner_view, owner_views, scanner_view, keeper_view, keeper_views, opening_views}
+use Rattle.core_state.specs.Opens.{IsNew, Opens}
+use Rattle.core_state.specs.Views.{Has, IsSeated}
+use Rattle.core_state.proofs.CoreOpened.{core_opens}
+use Rattle.core_state.proofs.Opened.{openings_are_sound}
+use Rattle.core_state.proofs.Starts.{length-free_hand, length-unplugged_hand}
+use Rattle.core_actors.specs.CallSteps.{IsCallOf}
+use Rattle.core_actors.specs.Fits.{Fits}
 use Rattle.core_actors.specs.Owners.{OwnerState, owner_at_start}
-use Rattle.core_actors.proofs.UnderWay.{start_under_way}
-use Rattle.replay.specs.Keeping.{HaveNumbers}
-use Rattle.replay.specs.Runs.{budgets_of, owners_from}
+use Rattle.core_actors.proofs.FitSteps.{waiting_unmarked, waiting_drawn, waiting_holds, waiting_has}
+use Rattle.core_actors.proofs.StaysUnderWay.{starts_under_way}
+use Rattle.replay.specs.Keeping.{HaveNumbers, IsIdle, AreSeatsKept}
+use Rattle.replay.specs.Runs.{budgets_of, owners_from, opening, machine_at_start}
+use Rattle.replay.proofs.InOrder.{none_in_order}
 
 -- ---- budgets, and how many owners and seats there are
 
@@ -33,12 +40,22 @@ sum_budgets (c ∷ cs) =
     let b = sum_by-cons (λ (x : List (PageNo × Call)). length x) c cs in
     let e = sum_budgets cs in omega arith
 
-pub length-owners_from : (k : ℕ) (scripts : List (List (PageNo × Call))) → length (owners_from k scripts) ≡ length scripts
-length-owners_from k [] = refl
-length-owners_from k (c ∷ cs) = ap suc (length-owners_from (k + 1) cs)
+pub length-owners_from : (cells k : ℕ) (scripts : List (List (PageNo × Call))) → length (owners_from cells k scripts) ≡ length scripts
+length-owners_from cells k [] = refl
+length-owners_from cells k (c ∷ cs) = ap suc (length-owners_from cells (k + 1) cs)
+
+-- a list of equal items, read with that item past its end
+pub same_item : {A : Type 0} (n i : ℕ) (x : A) → get_or (replicate n x) i x ≡ x
+same_item zero i x = refl
+same_item (suc n) zero x = refl
+same_item (suc n) (suc i) x = same_item n i x
+
+-- an empty hand has no frame
+pub none_there : (n frame : ℕ) → get_or (empty_places n) frame None ≡ None
+none_there n frame = same_item n frame None
 
 module _ (s : Sizes) where
-  length-owner_views : (k : ℕ) (scripts : List (List (PageNo × Call))) → length (owner_views s k (budgets_of scripts)) ≡ length scripts
+  pub length-owner_views : (k : ℕ) (scripts : List (List (PageNo × Call))) → length (owner_views s k (budgets_of scripts)) ≡ length scripts
   length-owner_views k [] = refl
   length-owner_views k (c ∷ cs) = ap suc (length-owner_views (k + 1) cs)
 
@@ -52,16 +69,16 @@ module _ (s : Sizes) where
   record IsOwnerAt (scripts : List (List (PageNo × Call))) (number i : ℕ) (a : OwnerState) (v : View) : Type 0 where
     pub script : List (PageNo × Call)
     pub here : script ≡ get_or scripts i []
-    pub owner : owner_at_start number script ≡ a
+    pub owner : owner_at_start number s.cells script ≡ a
     pub view : owner_view s number (length script) ≡ v
 
   owner_at : (k : ℕ) (scripts : List (List (PageNo × Call))) (rest : List View) (i number : ℕ) (a : OwnerState) (v : View) → number ≡ k + i
-      → slice_get (owners_from k scripts) i ≡ Some a → slice_get (owner_views s k (budgets_of scripts) ++ rest) i ≡ Some v → IsOwnerAt scripts number i a v
+      → slice_get (owners_from s.cells k scripts) i ≡ Some a → slice_get (owner_views s k (budgets_of scripts) ++ rest) i ≡ Some v → IsOwnerAt scripts number i a v
   owner_at k [] rest i number a v is at has = absurd (none-some a at)
   owner_at k (c ∷ cs) rest zero number a v is at has = let same : number ≡ k = omega arith in record {
     script = c;
     here = refl;
-    owner = ap (λ (n : ℕ). owner_at_start n c) same ∙ same_Some (owner_at_start k c) a at;
+    owner = ap (λ (n : ℕ). owner_at_start n s.cells c) same ∙ same_Some (owner_at_start k s.cells c) a at;
     view = ap (λ (n : ℕ). owner_view s n (length c)) same ∙ same_Some (owner_view s k (length c)) v has;
   }
   owner_at k (c ∷ cs) rest (suc i) number a v is at has =
@@ -70,61 +87,101 @@ module _ (s : Sizes) where
 
   -- ---- it is at the start of its script
 
-  are_of : (call : Call) → IsBuilt call → HasSteps call
-  are_of (Alloc kind) b = b
-  are_of Free b = b
-  are_of (Read first count) b = b
-  are_of (Write first values) b = b
-  are_of (Add cell value) b = b
-  are_of Pin b = b
-  are_of Unpin b = b
-
   calls_of : (script : List (PageNo × Call)) → AllByRecursion (IsOwnerCall s) script → AllByRecursion (λ c. IsCallOf s c) script
-  calls_of script all = all_weaker (IsOwnerCall s) (λ c. IsCallOf s c) (λ c of. record { page = of.page; call = of.call; steps = are_of c.1 of.built }) script all
+  calls_of script all = all_weaker (IsOwnerCall s) (λ c. IsCallOf s c) (λ c of. record { page = of.page; call = of.call }) script all
 
   numbers_of : (script : List (PageNo × Call)) → AllByRecursion (IsOwnerCall s) script → HaveNumbers script
   numbers_of script all = all_weaker (IsOwnerCall s) (λ c. HasNumbers c.1) (λ c of. of.numbers) script all
 
-  unmarked_at_start : (number : ℕ) (script : List (PageNo × Call)) → unmarked_for script (owner_at_start number script) ≡ []
-  unmarked_at_start number [] = refl
-  unmarked_at_start number (c ∷ cs) =
-      let none : past_loads (owner_at_start number (c ∷ cs)) c.1 ≡ 0 = omega arith in
-      ap (λ (n : ℕ). if nat_lt 0 n && nat_le n (length (values_of [] c.1)) then record { 0 = frame_of 0 } ∷ [] else []) none
-
-  holds_at_start : (cells number : ℕ) (script : List (PageNo × Call)) → HoldsFor cells script (owner_at_start number script) None
-  holds_at_start cells number [] = refl
-  holds_at_start cells number (c ∷ cs) = refl
-
   module _ (start : List StartPage) (budgets : List ℕ) where
-    fits_at_start : (number : ℕ) (script : List (PageNo × Call)) → AllByRecursion (IsOwnerCall s) script → Fits s (opening_of s start budgets) script (owner_view s number (length script)) (owner_at_start number script)
+    abbrev o : Opening
+    o = opening_of s start budgets
+
+    owner_seated : (number left : ℕ) → IsSeated o (owner_view s number left)
+    owner_seated number left = record { cells = refl; hand = length-replicate {A = Option HandFrame} (frame_count s) None; image = tt }
+
+    fits_at_start : (number : ℕ) (script : List (PageNo × Call)) → AllByRecursion (IsOwnerCall s) script → Fits s o script (owner_view s number (length script)) (owner_at_start number s.cells script)
     fits_at_start number script all = record {
       cells = refl;
+      owner_cells = refl;
       pages = refl;
       calls = calls_of script all;
-      under_way = start_under_way number script;
-      seated = record { cells = refl; hand = length-replicate {A = Option HandFrame} (frame_count s) None; image = tt };
+      under_way = starts_under_way number s.cells script None;
+      seated = owner_seated number (length script);
       caller = refl;
       callers = tt;
       entries = refl;
-      left = omega arith;
-      unmarked = sym (unmarked_at_start number script);
-      held = holds_at_start s.cells number script;
+      left = let none = waiting_drawn number s.cells None script in omega arith;
+      unmarked = sym (waiting_unmarked number s.cells None script);
+      held = waiting_holds number s.cells None s.cells script;
+      hand = waiting_has number s.cells (owner_view s number (length script)) (owner_view s number (length script)) script None (λ (x : HandFrame). length x.stores ≡ s.cells) refl (λ x e. e) (none_there (frame_count s));
     }
 
-    abbrev pub IsAtStart : ℕ → List (PageNo × Call) → OwnerState → View → Type 0
-    IsAtStart number script a v = (a.owner ≡ number) × Fits s (opening_of s start budgets) script v a × HaveNumbers a.left
+    abbrev IsAtStart : ℕ → List (PageNo × Call) → OwnerState → View → Type 0
+    IsAtStart number script a v = (a.owner ≡ number) × Fits s o script v a × HaveNumbers a.left
 
     -- the owner with that number, and its seat
-    pub starts_fit : (scripts : List (List (PageNo × Call))) (rest : List View) (i : ℕ) (a : OwnerState) (v : View) → AllByRecursion (λ script. AllByRecursion (IsOwnerCall s) script) scripts
-        → slice_get (owners_from 1 scripts) i ≡ Some a → slice_get (owner_views s 1 (budgets_of scripts) ++ rest) i ≡ Some v → IsAtStart (suc i) (get_or scripts i []) a v
+    starts_fit : (scripts : List (List (PageNo × Call))) (rest : List View) (i : ℕ) (a : OwnerState) (v : View) → AllByRecursion (λ script. AllByRecursion (IsOwnerCall s) script) scripts
+        → slice_get (owners_from s.cells 1 scripts) i ≡ Some a → slice_get (owner_views s 1 (budgets_of scripts) ++ rest) i ≡ Some v → IsAtStart (suc i) (get_or scripts i []) a v
     starts_fit scripts rest i a v all at has =
         let p = owner_at 1 scripts rest i (suc i) a v (omega arith) at has in
         let calls : AllByRecursion (IsOwnerCall s) p.script = subst (λ (l : List (PageNo × Call)). AllByRecursion (IsOwnerCall s) l) (sym p.here) (script_calls scripts i all) in
         subst (λ (l : List (PageNo × Call)). IsAtStart (suc i) l a v) p.here
         (subst (λ (b : OwnerState). IsAtStart (suc i) p.script b v) p.owner
-        (subst (λ (w : View). IsAtStart (suc i) p.script (owner_at_start (suc i) p.script) w) p.view
+        (subst (λ (w : View). IsAtStart (suc i) p.script (owner_at_start (suc i) s.cells p.script) w) p.view
         (refl, fits_at_start (suc i) p.script calls, numbers_of p.script calls))) where
           script_calls : (scripts : List (List (PageNo × Call))) (i : ℕ) → AllByRecursion (λ script. AllByRecursion (IsOwnerCall s) script) scripts → AllByRecursion (IsOwnerCall s) (get_or scripts i [])
           script_calls [] i all = tt
           script_calls (c ∷ cs) zero all = all.0
           script_calls (c ∷ cs) (suc i) all = script_calls cs i all.1
+
+    -- ---- each seat has a place for each frame
+
+    module _ (w : IsWithinLimits s) where
+      last_seated : (i : ℕ) (v : View) → Has (scanner_view s ∷ keeper_views s start) i v → IsSeated o v
+      last_seated zero v has = subst (λ (x : View). IsSeated o x) (same_Some (scanner_view s) v has)
+          (record { cells = refl; hand = length-replicate {A = Option HandFrame} (frame_count s) None; image = length-replicate (frame_count s) [] })
+      last_seated (suc zero) v has = subst (λ (x : View). IsSeated o x) (same_Some (keeper_view s (free_hand s start)) v has)
+          (record { cells = refl; hand = length-free_hand s start w; image = tt })
+      last_seated (suc (suc zero)) v has = subst (λ (x : View). IsSeated o x) (same_Some (keeper_view s (unplugged_hand s)) v has)
+          (record { cells = refl; hand = length-unplugged_hand s w; image = tt })
+      last_seated (suc (suc (suc i))) v has = absurd (none-some v has)
+
+      owners_seated : (k : ℕ) (left : List ℕ) (i : ℕ) (v : View) → Has (owner_views s k left ++ scanner_view s ∷ keeper_views s start) i v → IsSeated o v
+      owners_seated k [] i v has = last_seated i v has
+      owners_seated k (n ∷ ns) zero v has = subst (λ (x : View). IsSeated o x) (same_Some (owner_view s k n) v has) (owner_seated k n)
+      owners_seated k (n ∷ ns) (suc i) v has = owners_seated (k + 1) ns i v has
+
+      all_seated : (i : ℕ) (v : View) → Has (opening_views s start budgets) i v → IsSeated o v
+      all_seated zero v has = subst (λ (x : View). IsSeated o x) (same_Some (driver_view s) v has)
+          (record { cells = refl; hand = length-replicate {A = Option HandFrame} (frame_count s) None; image = tt })
+      all_seated (suc i) v has = owners_seated 1 budgets i v has
+
+-- ---- the seats
+
+new_is_idle : (o : Opening) (v : View) → IsNew o v → IsSeated o v → IsIdle o v
+new_is_idle o v new seated = record {
+  rests = record { seated = seated; holds_none = new.held; all_marked = new.unmarked };
+  entries = new.entries;
+  sized = λ frame x is. ap (λ (l : List (Option ℕ)). length l) (new.hand frame x is) ∙ length-replicate {A = Option ℕ} o.cells None;
+}
+
+module _ (s : Scenario) (r : IsRunnable s) where
+  abbrev start_views : List View
+  start_views = opening_views s.geometry s.start (budgets_of s.owners)
+
+  opens : Opens (opening s) (opening_words s.geometry s.start) start_views
+  opens = core_opens s.geometry r.limits s.start (budgets_of s.owners) r.start (let a = sum_budgets s.owners in let b = r.count in omega arith)
+
+  pub new_at_start : (i : ℕ) (v : View) → Has start_views i v → IsNew (opening s) v
+  new_at_start i v has = opens.new i v has
+
+  pub seats_at_start : AreSeatsKept s (machine_at_start s)
+  seats_at_start = record {
+    sound = openings_are_sound (opening s) (opening_words s.geometry s.start) start_views opens;
+    owners = length-owners_from s.geometry.cells 1 s.owners;
+    seats = length-opening_views s.geometry s.start s.owners;
+    fits = λ i a v at has. starts_fit s.geometry s.start (budgets_of s.owners) s.owners (scanner_view s.geometry ∷ keeper_views s.geometry s.start) i a v r.calls at has;
+    in_order = λ i v has. let n = opens.new i v has in none_in_order v n.entries n.held;
+    others = λ i v has other. new_is_idle (opening s) v (opens.new i v has) (all_seated s.geometry s.start (budgets_of s.owners) r.limits i v has);
+  }

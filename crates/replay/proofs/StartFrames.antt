@@ -1,0 +1,240 @@
+-- Where the frames are at the start: those of the start pages are mapped, and the others are in the hands of the free
+-- and the unplugged frames.
+use Rattle.std.proofs.Common.{◌≡◌, ◌≢◌, ◌⊎◌, ◌↔◌, ⊎_elim, ℕ, zero, suc, ◌+◌, ◌-◌, ◌*◌, ◌<◌, ◌≤◌, eqb, nat_eq, true, false, List, [], ◌∷◌, ◌++◌, length, map, set, get_or, get_or-set_other, refl, sym, ap, ◌∙◌, subst, eq-eqb, ne_eqb, mul-le-mul_right, arith, Option, Some, None, IsSome}
+use Rattle.std.proofs.Math.Seq.{get_or-append_right}
+use Rattle.std.proofs.lemmas.Bool.{false≢true, false_from_ne_true, cond-true, cond-false, or_left, or_right}
+use Rattle.std.proofs.lemmas.List.{length-replicate, get_or-replicate, get_or_append_left}
+use Rattle.std.proofs.lemmas.Map.Keys.{IsDistinct-head, IsDistinct-tail}
+use Rattle.std.proofs.lemmas.Option.{none-some}
+use Rattle.std.specs.List.{AllByRecursion, IsDistinct, range_with_len}
+use mathlib.Core.Logic.{dite}
+use native.Mathlib.Decide.{ℕ_discrete, dec_lt}
+use Rattle.evac_model.specs.declared.names.PageNo.{PageNo}
+use Rattle.evac_model.specs.declared.call.Call.{Call}
+use Rattle.evac_model.specs.declared.scenario.Scenario.{Scenario}
+use Rattle.evac_model.specs.declared.scenario.StartPage.{StartPage}
+use Rattle.evac_model.specs.Geometry.{Sizes, IsWithinLimits, frame_count, first_frame}
+use Rattle.evac_model.specs.Numbers.{is_in}
+use Rattle.evac_model.specs.Scenarios.{IsRunnable}
+use Rattle.evac_model.specs.SpaceJournal.{out_for, is_frame_in, out_at_start}
+use Rattle.evac_model.specs.StartPages.{IsStartPage}
+use Rattle.evac_model.proofs.Ranges.{between_below}
+use Rattle.evac_words.specs.Word.{mapped_bit, frame_of}
+use Rattle.evac_words.specs.Table.{entry_index, table_length}
+use Rattle.core_state.specs.declared.hand.HandFrame.{HandFrame}
+use Rattle.core_state.specs.declared.view.View.{View}
+use Rattle.core_state.specs.Words.{entry_word_of, kind_in, mapped_word}
+use Rattle.core_state.specs.CoreOpens.{opening_words, frames_there, fresh_frame, empty_places, fresh_places, free_hand, unplugged_hand, owner_views, scanner_view, keeper_view, keeper_views}
+use Rattle.core_state.specs.Views.{hand_frame, view_of, spent}
+use Rattle.core_state.proofs.Lists.{within}
+use Rattle.core_state.proofs.Starts.{length-opening_words, frame_within}
+use Rattle.core_state.proofs.WordsAt.{entry_word-here, entry_word-other}
+use Rattle.core_moves.proofs.MoveWords.{kind_in-mapped, frame_of-mapped}
+use Rattle.space.proofs.BlockFrames.{frame_from, in_block, frame_in_witness}
+use Rattle.space.proofs.Members.{is_in-range_with_len}
+use Rattle.space.proofs.Opens.{out_at_place}
+use Rattle.replay.specs.FramesOut.{space_now, AreFramesPlaced}
+use Rattle.replay.specs.Machine.{Machine, free_seat}
+use Rattle.replay.specs.Runs.{budgets_of, machine_at_start}
+use Rattle.replay.proofs.Starts.{same_item, none_there, length-owners_from, length-owner_views}
+
+-- ---- a place without a frame, and one with
+
+nowhere : {A : Type 0} (x : Option A) → x ≡ None → ¬ IsSome x
+nowhere {A = A} x none is = false≢true (subst (λ (y : Option A). IsSome y) none is)
+
+somewhere : {A : Type 0} (x : Option A) (a : A) → x ≡ Some a → IsSome x
+somewhere {A = A} x a is = subst (λ (y : Option A). IsSome y) (sym is) refl
+
+-- where none is put, none stands
+none_put : {A : Type 0} (l : List (Option A)) (k : ℕ) → get_or (set l k None) k None ≡ None
+none_put [] k = refl
+none_put (x ∷ xs) zero = refl
+none_put (x ∷ xs) (suc k) = none_put xs k
+
+apart_from : (f g : ℕ) → nat_eq f g ≡ false → f ≢ g
+apart_from f g h e = absurd (let t : nat_eq f g ≡ true = eq-eqb f g e in cc)
+
+module _ (s : Sizes) where
+  -- ---- the hands
+
+  -- the start pages' frames are those of the frames that are there that aren't free
+  free_at : (ps : List StartPage) (f : ℕ) → IsSome (get_or (free_hand s ps) f None) ↔ ((out_at_start ps f ≡ None) × (f < frames_there s))
+  free_at [] f = dite (dec_lt f (frames_there s))
+      (λ lt.
+      let here : get_or (free_hand s []) f None ≡ Some (fresh_frame s.cells) =
+      get_or_append_left (fresh_places s.cells (frames_there s)) (empty_places (frame_count s - frames_there s)) None f (let a = length-replicate {A = Option HandFrame} (frames_there s) (Some (fresh_frame s.cells)) in omega arith)
+      ∙ get_or-replicate (frames_there s) f (Some (fresh_frame s.cells)) None lt in
+      ((λ is. (refl, lt)), (λ p. somewhere (get_or (free_hand s []) f None) (fresh_frame s.cells) here)))
+      (λ ge.
+      let none : get_or (free_hand s []) f None ≡ None =
+      get_or-append_right (fresh_places s.cells (frames_there s)) (empty_places (frame_count s - frames_there s)) f None (let a = length-replicate {A = Option HandFrame} (frames_there s) (Some (fresh_frame s.cells)) in omega arith)
+      ∙ none_there (frame_count s - frames_there s) (f - length (fresh_places s.cells (frames_there s))) in
+      ((λ is. absurd (nowhere (get_or (free_hand s []) f None) none is)), (λ p. absurd (ge p.1))))
+  free_at (p ∷ ps) f = dite (ℕ_discrete p.frame.0 f)
+      (λ e.
+      let none : get_or (free_hand s (p ∷ ps)) f None ≡ None = ap (λ (k : ℕ). get_or (set (free_hand s ps) p.frame.0 None) k None) (sym e) ∙ none_put (free_hand s ps) p.frame.0 in
+      let out : out_at_start (p ∷ ps) f ≡ Some (record { page = p.page.0; kind = p.kind }) = cond-true (eqb p.frame.0 f) _ _ (eq-eqb p.frame.0 f e) in
+      ((λ is. absurd (nowhere (get_or (free_hand s (p ∷ ps)) f None) none is)), (λ q. absurd (none-some _ (sym q.0 ∙ out)))))
+      (λ ne.
+      let same : get_or (free_hand s (p ∷ ps)) f None ≡ get_or (free_hand s ps) f None = get_or-set_other (free_hand s ps) p.frame.0 f None None (λ e. ne (sym e)) in
+      let out : out_at_start (p ∷ ps) f ≡ out_at_start ps f = cond-false (eqb p.frame.0 f) _ _ (ne_eqb p.frame.0 f ne) in
+      let rest = free_at ps f in (
+        (λ is. let q = rest.0 (subst (λ (x : Option HandFrame). IsSome x) same is) in (out ∙ q.0, q.1)),
+        (λ q. subst (λ (x : Option HandFrame). IsSome x) (sym same) (rest.1 (sym out ∙ q.0, q.1))),
+      ))
+
+  unplugged_at : (f : ℕ) → f < frame_count s → IsSome (get_or (unplugged_hand s) f None) ↔ (frames_there s ≤ f)
+  unplugged_at f below = dite (dec_lt f (frames_there s))
+      (λ lt.
+      let none : get_or (unplugged_hand s) f None ≡ None =
+      get_or_append_left (empty_places (frames_there s)) (fresh_places s.cells (frame_count s - frames_there s)) None f (let a = length-replicate {A = Option HandFrame} (frames_there s) None in omega arith)
+      ∙ none_there (frames_there s) f in
+      ((λ is. absurd (nowhere (get_or (unplugged_hand s) f None) none is)), (λ le. absurd (omega arith))))
+      (λ ge.
+      let long = length-replicate {A = Option HandFrame} (frames_there s) None in
+      let here : get_or (unplugged_hand s) f None ≡ Some (fresh_frame s.cells) =
+      get_or-append_right (empty_places (frames_there s)) (fresh_places s.cells (frame_count s - frames_there s)) f None (omega arith)
+      ∙ get_or-replicate (frame_count s - frames_there s) (f - length (empty_places (frames_there s))) (Some (fresh_frame s.cells)) None (omega arith) in
+      ((λ is. omega arith), (λ le. somewhere (get_or (unplugged_hand s) f None) (fresh_frame s.cells) here)))
+
+  -- ---- the frames of blocks that aren't plugged
+
+  -- the blocks from a on lie one behind another
+  in_range : (a n f : ℕ) → first_frame s a ≤ f → f < first_frame s (a + n) → is_frame_in s (range_with_len a n) f ≡ true
+  in_range a zero f from below = absurd (let same : first_frame s (a + 0) ≡ first_frame s a = ap (λ (b : ℕ). first_frame s b) (omega arith) in omega arith)
+  in_range a (suc n) f from below = dite (dec_lt f (first_frame s a + s.block))
+      (λ here. or_left _ _ (in_block s a f from here))
+      (λ past.
+      let next : first_frame s (a + 1) ≡ first_frame s a + s.block = omega arith in
+      let last : first_frame s (a + 1 + n) ≡ first_frame s (a + suc n) = ap (λ (b : ℕ). first_frame s b) (omega arith) in
+      or_right _ _ (in_range (a + 1) n f (omega arith) (omega arith)))
+
+  abbrev unplugged_blocks : List ℕ
+  unplugged_blocks = range_with_len s.plugged (s.managed - s.plugged)
+
+  unplugged_from : (b : ℕ) → is_in b unplugged_blocks ≡ true → s.plugged ≤ b
+  unplugged_from b there = dite (dec_lt b s.plugged)
+      (λ lt. absurd (false≢true (sym (between_below s.plugged (s.plugged + (s.managed - s.plugged)) b lt) ∙ sym (is_in-range_with_len b s.plugged (s.managed - s.plugged)) ∙ there)))
+      (λ ge. omega arith)
+
+  offline_there : (f : ℕ) → is_frame_in s unplugged_blocks f ≡ true → frames_there s ≤ f
+  offline_there f off =
+      let w = frame_in_witness s unplugged_blocks f off in
+      let from : (s.boot + s.plugged) * s.block ≤ first_frame s w.0 = mul-le-mul_right s.block (let le = unplugged_from w.0 w.1 in omega arith) in
+      let le = frame_from s w.0 f w.2 in omega arith
+
+  there_offline : (f : ℕ) → s.plugged ≤ s.managed → f < frame_count s → frames_there s ≤ f → is_frame_in s unplugged_blocks f ≡ true
+  there_offline f few below from =
+      let last : first_frame s (s.plugged + (s.managed - s.plugged)) ≡ frame_count s = ap (λ (b : ℕ). first_frame s b) (let e : s.plugged + (s.managed - s.plugged) ≡ s.managed = omega arith in e) in
+      in_range s.plugged (s.managed - s.plugged) f from (omega arith)
+
+  -- ---- the start pages' words
+
+  -- a frame that no start page has
+  out_unnamed : (ps : List StartPage) (f : ℕ) → AllByRecursion (λ y. nat_eq f y ≡ false) (map (λ p. p.frame.0) ps) → out_at_start ps f ≡ None
+  out_unnamed [] f apart = refl
+  out_unnamed (p ∷ ps) f apart = cond-false (eqb p.frame.0 f) _ _ (ne_eqb p.frame.0 f (λ e. apart_from f p.frame.0 apart.0 (sym e))) ∙ out_unnamed ps f apart.1
+
+  record IsMappedOut (ps : List StartPage) (w page : ℕ) : Type 0 where
+    pub low : frame_of w < frame_count s
+    pub out : out_at_start ps (frame_of w) ≡ Some (record { page = page; kind = kind_in w })
+
+  module _ (limits : IsWithinLimits s) where
+    mapped_out : (ps : List StartPage) (page : ℕ) → AllByRecursion (IsStartPage s) ps → IsDistinct nat_eq (map (λ p. p.frame.0) ps)
+        → mapped_bit (entry_word_of (opening_words s ps) page) ≡ 1 → IsMappedOut ps (entry_word_of (opening_words s ps) page) page
+    mapped_out [] page each frames mapped = absurd (
+        let zero_word : entry_word_of (opening_words s []) page ≡ 0 = same_item (table_length s.pages (frame_count s) s.cells) (entry_index page) 0 in
+        let bit = ap (λ (w : ℕ). mapped_bit w) zero_word in omega arith)
+    mapped_out (p ∷ ps) page each frames mapped = dite (ℕ_discrete page p.page.0)
+        (λ e.
+        let low = frame_within s p limits each.0 in
+        let fit : p.frame.0 < 1048576 = let few = limits.frames in omega arith in
+        let word : entry_word_of (opening_words s (p ∷ ps)) page ≡ mapped_word 0 p.frame.0 p.kind =
+        ap (λ (q : ℕ). entry_word_of (opening_words s (p ∷ ps)) q) e
+        ∙ entry_word-here (opening_words s ps) (mapped_word 0 p.frame.0 p.kind) p.page.0 (let long = length-opening_words s ps in let lt = each.0.page in omega arith) in
+        subst (λ (w : ℕ). IsMappedOut (p ∷ ps) w page) (sym word) (record {
+          low = subst (λ (f : ℕ). f < frame_count s) (sym (frame_of-mapped 0 p.frame.0 p.kind fit)) low;
+          out = cond-true (eqb p.frame.0 (frame_of (mapped_word 0 p.frame.0 p.kind))) _ _ (eq-eqb p.frame.0 _ (sym (frame_of-mapped 0 p.frame.0 p.kind fit)))
+              ∙ (λ i. Some (record { page = sym e i; kind = sym (kind_in-mapped 0 p.frame.0 p.kind fit) i }));
+        }))
+        (λ ne.
+        let word : entry_word_of (opening_words s (p ∷ ps)) page ≡ entry_word_of (opening_words s ps) page = entry_word-other (opening_words s ps) p.page.0 (mapped_word 0 p.frame.0 p.kind) page ne in
+        let rest = mapped_out ps page each.1 (IsDistinct-tail nat_eq p.frame.0 (map (λ q. q.frame.0) ps) frames) (ap (λ (w : ℕ). mapped_bit w) (sym word) ∙ mapped) in
+        let apart : p.frame.0 ≢ frame_of (entry_word_of (opening_words s ps) page) = λ e.
+        none-some _ (sym (out_unnamed ps p.frame.0 (IsDistinct-head nat_eq p.frame.0 (map (λ q. q.frame.0) ps) frames)) ∙ ap (λ (f : ℕ). out_at_start ps f) e ∙ rest.out) in
+        subst (λ (w : ℕ). IsMappedOut (p ∷ ps) w page) (sym word) (record {
+          low = rest.low;
+          out = cond-false (eqb p.frame.0 (frame_of (entry_word_of (opening_words s ps) page))) _ _ (ne_eqb p.frame.0 _ apart) ∙ rest.out;
+        }))
+
+  -- ---- which seat is which
+
+  -- the hand of an owner's seat is empty
+  owner_hand : (k : ℕ) (scripts : List (List (PageNo × Call))) (rest : List View) (i : ℕ) → i < length scripts → (get_or (owner_views s k (budgets_of scripts) ++ rest) i spent).hand ≡ empty_places (frame_count s)
+  owner_hand k [] rest i lt = absurd (omega arith)
+  owner_hand k (c ∷ cs) rest zero lt = refl
+  owner_hand k (c ∷ cs) rest (suc i) lt = owner_hand (k + 1) cs rest i (omega arith)
+
+  past_owners : (k : ℕ) (scripts : List (List (PageNo × Call))) (rest : List View) (j : ℕ) → get_or (owner_views s k (budgets_of scripts) ++ rest) (length scripts + j) spent ≡ get_or rest j spent
+  past_owners k scripts rest j =
+      let long = length-owner_views s k scripts in
+      get_or-append_right (owner_views s k (budgets_of scripts)) rest (length scripts + j) spent (omega arith)
+      ∙ ap (λ (n : ℕ). get_or rest n spent) (omega arith)
+
+-- ---- the machine
+
+module _ (s : Scenario) (r : IsRunnable s) where
+  abbrev m : Machine
+  m = machine_at_start s
+
+  abbrev last : List View
+  last = scanner_view s.geometry ∷ keeper_views s.geometry s.start
+
+  many : length m.owners ≡ length s.owners
+  many = length-owners_from s.geometry.cells 1 s.owners
+
+  -- the seats behind the owners
+  last_at : (seat j : ℕ) → seat ≡ suc (length s.owners + j) → view_of m.snapshot.views seat ≡ get_or last j spent
+  last_at seat j e = ap (λ (k : ℕ). view_of m.snapshot.views k) e ∙ past_owners s.geometry 1 s.owners last j
+
+  free_here : view_of m.snapshot.views (free_seat (length m.owners)) ≡ keeper_view s.geometry (free_hand s.geometry s.start)
+  free_here = last_at (free_seat (length m.owners)) 1 (let n = many in omega arith)
+
+  unplugged_here : view_of m.snapshot.views (free_seat (length m.owners) + 1) ≡ keeper_view s.geometry (unplugged_hand s.geometry)
+  unplugged_here = last_at (free_seat (length m.owners) + 1) 2 (let n = many in omega arith)
+
+  empty_here : (seat frame : ℕ) → (seat ≡ 0) ⊎ (seat ≡ length m.owners + 1) → hand_frame (view_of m.snapshot.views seat) frame ≡ None
+  empty_here seat frame which = ⊎_elim
+      (λ e. ap (λ (k : ℕ). hand_frame (view_of m.snapshot.views k) frame) e ∙ none_there (frame_count s.geometry) frame)
+      (λ e. ap (λ (v : View). hand_frame v frame) (last_at seat 0 (let n = many in omega arith)) ∙ none_there (frame_count s.geometry) frame)
+      which
+
+  owner_empty : (i frame : ℕ) → i < length s.owners → hand_frame (view_of m.snapshot.views (suc i)) frame ≡ None
+  owner_empty i frame lt = ap (λ (l : List (Option HandFrame)). get_or l frame None) (owner_hand s.geometry 1 s.owners last i lt) ∙ none_there (frame_count s.geometry) frame
+
+  plugged_where : (frame : ℕ) → frame < frame_count s.geometry → (is_frame_in s.geometry (space_now s m).offline frame ≡ true) ↔ (frames_there s.geometry ≤ frame)
+  plugged_where frame low = (offline_there s.geometry frame, there_offline s.geometry frame r.limits.plugged low)
+
+  pub frames_at_start : AreFramesPlaced s (machine_at_start s)
+  frames_at_start = record {
+    possible = tt;
+    free = λ frame low.
+        let out = out_at_place s.geometry s.start frame low in
+        let at = free_at s.geometry s.start frame in
+        let off = plugged_where frame low in
+        subst (λ (v : View). IsSome (hand_frame v frame) ↔ ((out_for (space_now s m) frame ≡ None) × (is_frame_in s.geometry (space_now s m).offline frame ≡ false))) (sym free_here) (
+          (λ is. let p = at.0 is in (out ∙ p.0, false_from_ne_true _ (λ yes. let le = off.0 yes in let lt = p.1 in absurd (omega arith)))),
+          (λ p. at.1 (sym out ∙ p.0, dite (dec_lt frame (frames_there s.geometry)) (λ lt. lt) (λ ge. absurd (false≢true (sym p.1 ∙ off.1 (omega arith)))))),
+        );
+    unplugged = λ frame low.
+        let at = unplugged_at s.geometry frame low in
+        let off = plugged_where frame low in
+        subst (λ (v : View). IsSome (hand_frame v frame) ↔ (is_frame_in s.geometry (space_now s m).offline frame ≡ true)) (sym unplugged_here)
+        ((λ is. off.1 (at.0 is)), (λ yes. at.1 (off.0 yes)));
+    empty = empty_here;
+    mapped = λ page low mapped.
+        let p = mapped_out s.geometry r.limits s.start page r.start.each r.start.frames mapped in
+        out_at_place s.geometry s.start (frame_of (entry_word_of m.snapshot.words page)) p.low ∙ p.out;
+    in_hand = λ i a frame at has. absurd (nowhere _ (owner_empty i frame (let lt = within m.owners i a at in let n = many in omega arith)) has);
+  }
