@@ -1,8 +1,7 @@
 -- A run of all turns of a schedule.
-use Rattle.std.proofs.Common.{◌≡◌, ℕ, ◌+◌, ◌*◌, ◌^◌, ◌≤◌, List, ◌++◌, length, refl, ap, sym, ◌∙◌, subst, arith, Option, Some, None}
+use Rattle.std.proofs.Common.{◌≡◌, ℕ, ◌+◌, ◌*◌, ◌^◌, ◌≤◌, List, ◌++◌, length, ap, sym, ◌∙◌, subst, arith, Option, Some, None}
 use Rattle.std.specs.Prelude.{IfSome}
 use Rattle.std.proofs.Math.Nat.{mul-le-mul}
-use Rattle.evac_model.specs.declared.scenario.Actor.{Actor}
 use Rattle.evac_model.specs.declared.scenario.Drawn.{Drawn}
 use Rattle.evac_model.specs.declared.scenario.Scenario.{Scenario}
 use Rattle.evac_model.specs.declared.scenario.Turn.{Turn}
@@ -10,22 +9,21 @@ use Rattle.evac_model.specs.Scenarios.{IsRunnable}
 use Rattle.evac_model.specs.ScenarioGrammar.{call_count}
 use Rattle.evac_model.specs.Turns.{IsDraw}
 use Rattle.evac_model.proofs.Bounds.{power_to_512_most}
-use Rattle.core_actors.specs.Owners.{OwnerState}
-use Rattle.replay.specs.Machine.{Machine, Run, run_after, after_turns}
+use Rattle.replay.specs.Machine.{Run, run_after, after_turns}
 use Rattle.replay.specs.Keeping.{IsKept}
 use Rattle.replay.specs.ReplayInside.{ReplayState, replay_of}
-use Rattle.replay.specs.Runs.{opening, machine_at_start, AllEnded, IsScheduledRun}
+use Rattle.replay.specs.Runs.{setting, machine_at_start, AllEnded, IsScheduledRun}
 use Rattle.replay.specs.Schedule.{actors, named_turns, drawn_turns, rounds, schedule, draw_count, round_bound}
+use Rattle.replay.proofs.ActionsLeft.{turns_keep}
 use Rattle.replay.proofs.Ends.{runs_end_if_kept}
 use Rattle.replay.proofs.Kept.{starts_are_kept, turns_are_kept}
-use Rattle.replay.proofs.Left.{all_turns_keep}
 use Rattle.replay.proofs.Schedules.{after_both}
 use Rattle.replay.proofs.Starts.{length-owners_from}
 
 -- ---- numbers of a replay
 
 pub owner_number : (s : Scenario) (r : Run) (n : ℕ) → r ≡ (replay_of s).run → n ≡ length r.machine.owners → n ≡ length s.owners
-owner_number s r n is count = count ∙ ap (λ (x : Run). length x.machine.owners) is ∙ length-owners_from 1 s.owners
+owner_number s r n is count = count ∙ ap (λ (x : Run). length x.machine.owners) is ∙ length-owners_from s.geometry.cells 1 s.owners
 
 pub few_draws : (d : Option Drawn) → IfSome d IsDraw → draw_count d ≤ 2 ^ 24
 few_draws None is = omega arith
@@ -64,20 +62,20 @@ scheduled s start named drawn last turns draws n most is ts ds ns first second t
 
 -- what such a run leaves
 pub record IsDone (s : Scenario) (r : Run) : Type 0 where
-  pub opened : r.opening ≡ opening s
+  pub opened : r.setting ≡ setting s
   pub run : IsScheduledRun s r.machine
   pub kept : IsKept s r.machine
 
 pub done : (s : Scenario) (r : Run) (most : ℕ) → IsRunnable s → most ≡ round_bound s.geometry.cells (call_count s.owners) → r ≡ run_of_schedule s most → IsDone s r
 done s r most runnable bound is = record {
-  opened = ap (λ (x : Run). x.opening) is;
+  opened = ap (λ (x : Run). x.setting) is;
   run = record {
-    made = ap (λ (x : Run). x.machine) is ∙ ap (λ (k : ℕ). after_turns (opening s) (machine_at_start s) (schedule s k)) bound;
+    made = ap (λ (x : Run). x.machine) is ∙ ap (λ (k : ℕ). after_turns (setting s) (machine_at_start s) (schedule s k)) bound;
     ended =
         subst (λ (x : Run). AllEnded x.machine.owners) (sym is)
         (subst (λ (k : ℕ). AllEnded (run_of_schedule s k).machine.owners) (sym bound) (runs_end_if_kept starts_are_kept turns_are_kept s runnable));
   };
-  kept = subst (λ (x : Run). IsKept s x.machine) (sym is) (all_turns_keep s (machine_at_start s) (schedule s most) runnable (starts_are_kept s runnable));
+  kept = subst (λ (x : Run). IsKept s x.machine) (sym is) (turns_keep s (λ m actor kept. turns_are_kept s m actor runnable kept) (machine_at_start s) (schedule s most) (starts_are_kept s runnable));
 }
 
 -- the turns of a replay, made one part after another

@@ -1,19 +1,18 @@
 -- Runs and the turns of a schedule, one after another.
-use Rattle.std.proofs.Common.{◌≡◌, ℕ, zero, suc, ◌+◌, ◌-◌, ◌*◌, ◌%◌, ◌<◌, ◌≤◌, cond, Bool, true, List, [], ◌∷◌, ◌++◌, length, map, get_or, drop, replicate, refl, ap, sym, ◌∙◌, subst, arith, Some, add-one}
+use Rattle.std.proofs.Common.{◌≡◌, ℕ, zero, suc, ◌+◌, ◌-◌, ◌%◌, ◌<◌, true, List, [], ◌∷◌, ◌++◌, length, map, get_or, drop, replicate, refl, ap, sym, ◌∙◌, arith, Some, add-one}
 use Rattle.std.specs.List.{range_with_len, slice_get}
 use Rattle.std.proofs.Math.Seq.{drop-cons}
 use Rattle.std.proofs.lemmas.List.Concat.{flat_map-cons}
-use Rattle.std.proofs.lemmas.Option.{get_or_from_slice_get}
 use Rattle.rand_pcg.specs.Lcg.{Lcg}
 use Rattle.rand_pcg.specs.Pcg.{pcg32}
 use Rattle.evac_model.specs.declared.scenario.Actor.{Actor}
 use Rattle.evac_model.specs.declared.scenario.Actor.TheVariants.{Owner, Host, Scanner}
 use Rattle.evac_model.specs.declared.scenario.Turn.{Turn}
-use Rattle.core_state.specs.declared.opening.Opening.{Opening}
 use Rattle.core_actors.specs.Owners.{OwnerState, owner_at_start, owner_ended}
-use Rattle.replay.specs.Machine.{Machine, Run, owner_of, after_step_of, after_turn, run_after}
+use Rattle.replay.specs.Machine.{Setting, Machine, Run, owner_of, after_turn, run_after}
 use Rattle.replay.specs.Schedule.{actors, named_turns, actor_for, turns_from, rounds}
 use Rattle.replay.specs.Runs.{AllEnded}
+use Rattle.replay.proofs.Turns.{rests_at}
 
 -- turns behind turns
 pub after_both : (r : Run) (xs ys : List Actor) → run_after (run_after r xs) ys ≡ run_after r (xs ++ ys)
@@ -84,14 +83,14 @@ at_or P (x ∷ xs) (suc i) d none each = at_or P xs i d none each
 
 pub owner_has_ended : (owners : List OwnerState) (k : ℕ) → AllEnded owners → owner_ended (owner_of owners k) ≡ true
 owner_has_ended owners zero all = refl
-owner_has_ended owners (suc i) all = at_or (λ (a : OwnerState). owner_ended a ≡ true) owners i (owner_at_start 0 []) refl (all i)
+owner_has_ended owners (suc i) all = at_or (λ (a : OwnerState). owner_ended a ≡ true) owners i (owner_at_start 0 0 []) refl (all i)
 
-ended_turn : (o : Opening) (m : Machine) (x : Actor) → AllEnded m.owners → after_turn o m x ≡ m
-ended_turn o m (Owner k) all = ap (λ (b : Bool). cond b m (after_step_of o m k)) (owner_has_ended m.owners k all)
-ended_turn o m Host all = refl
-ended_turn o m Scanner all = refl
+ended_turn : (c : Setting) (m : Machine) (x : Actor) → AllEnded m.owners → after_turn c m x ≡ m
+ended_turn c m (Owner k) all = rests_at c m k (owner_has_ended m.owners k all)
+ended_turn c m Host all = refl
+ended_turn c m Scanner all = refl
 
 pub ended_turns : (r : Run) (xs : List Actor) → AllEnded r.machine.owners → run_after r xs ≡ r
 ended_turns r [] all = refl
 ended_turns r (x ∷ xs) all =
-    ap (λ (m : Machine). run_after (record r { machine = m }) xs) (ended_turn r.opening r.machine x all) ∙ ended_turns r xs all
+    ap (λ (m : Machine). run_after (record r { machine = m }) xs) (ended_turn r.setting r.machine x all) ∙ ended_turns r xs all

@@ -1,0 +1,133 @@
+-- The actions that all owners may still make: no turn raises them, and an action lowers them, but for a take
+-- that finds its page taken.
+use Rattle.std.proofs.Common.{◌≡◌, ◌⊎◌, ℕ, suc, ◌+◌, ◌<◌, ◌≤◌, ◌==◌, cond, Bool, false, List, [], ◌∷◌, if◌then◌else◌, refl, ap, ◌∙◌, arith, inl, inr, ⊎_elim, Some}
+use Rattle.std.specs.List.{sum_by, slice_get}
+use Rattle.std.proofs.lemmas.Option.{slice_get-get_or}
+use native.Mathlib.Decide.{ℕ_discrete}
+use mathlib.Core.Logic.{dite}
+use Rattle.evac_model.specs.declared.scenario.Actor.{Actor}
+use Rattle.evac_model.specs.declared.scenario.Actor.TheVariants.{Owner}
+use Rattle.evac_model.specs.declared.scenario.Scenario.{Scenario}
+use Rattle.evac_model.specs.Scripts.{script_of}
+use Rattle.evac_words.specs.Word.{taken_bit}
+use Rattle.core_state.specs.declared.step.Step.{Step}
+use Rattle.core_state.specs.declared.step.Step.TheVariants.{Take, Draw, Load, Store, Mark, Release}
+use Rattle.core_state.specs.Views.{Has, spent, view_of}
+use Rattle.core_state.proofs.Lists.{within, sum_by_replaced}
+use Rattle.core_actors.specs.declared.action.Action.{Action}
+use Rattle.core_actors.specs.declared.action.Action.TheVariants as actions
+use Rattle.core_actors.specs.declared.action.Heard.{Heard}
+use Rattle.core_actors.specs.declared.action.Heard.TheVariants.{Word}
+use Rattle.core_actors.specs.Owners.{OwnerState, one_made, owner_ended, next_action, word_in, after_action, owner_after}
+use Rattle.core_actors.specs.Counts.{actions_left, FindsTakenBy, FindsTaken}
+use Rattle.core_actors.specs.Fits.{Fits}
+use Rattle.core_actors.proofs.Left.{actions_fewer}
+use Rattle.replay.specs.Machine.{Setting, Machine, after_turn, after_turns}
+use Rattle.replay.specs.Runs.{opening, setting}
+use Rattle.replay.specs.Keeping.{IsKept}
+use Rattle.replay.proofs.Turns.{found_by, heard_of, found_at, heard_at, TurnOf, rests, acts, turn_of, owners_after}
+
+abbrev pub all_actions_left : Machine → ℕ
+all_actions_left m = sum_by actions_left m.owners
+
+-- ---- takes that find their page taken
+
+step_finds_taken_or_not : (step : Step) (found : ℕ) → FindsTakenBy step found ⊎ ¬ FindsTakenBy step found
+step_finds_taken_or_not (Take page) found = dite (ℕ_discrete (taken_bit found) 1) (λ e. inl e) (λ n. inr n)
+step_finds_taken_or_not Draw found = inr (λ h. h)
+step_finds_taken_or_not (Load cell) found = inr (λ h. h)
+step_finds_taken_or_not (Store frame cell value) found = inr (λ h. h)
+step_finds_taken_or_not (Mark frame) found = inr (λ h. h)
+step_finds_taken_or_not (Release end) found = inr (λ h. h)
+
+finds_taken_or_not : (x : Action) (found : ℕ) → FindsTaken x found ⊎ ¬ FindsTaken x found
+finds_taken_or_not (actions.Step step) found = step_finds_taken_or_not step found
+finds_taken_or_not (actions.Move step) found = inr (λ h. h)
+finds_taken_or_not (actions.Space call) found = inr (λ h. h)
+finds_taken_or_not actions.Ended found = inr (λ h. h)
+
+module _ (c : Setting) (m : Machine) (seat : ℕ) where
+  -- a take is heard of by the word that it finds
+  finds_what_it_hears : (x : Action) (word : ℕ) → heard_of c m seat x ≡ Word word → FindsTaken x word → FindsTaken x (found_by c m seat x)
+  finds_what_it_hears (actions.Step (Take page)) word e taken = ap (λ (h : Heard). taken_bit (word_in h)) e ∙ taken
+  finds_what_it_hears (actions.Step Draw) word e taken = taken
+  finds_what_it_hears (actions.Step (Load cell)) word e taken = taken
+  finds_what_it_hears (actions.Step (Store frame cell value)) word e taken = taken
+  finds_what_it_hears (actions.Step (Mark frame)) word e taken = taken
+  finds_what_it_hears (actions.Step (Release end)) word e taken = taken
+  finds_what_it_hears (actions.Move step) word e taken = taken
+  finds_what_it_hears (actions.Space call) word e taken = taken
+  finds_what_it_hears actions.Ended word e taken = taken
+
+  -- a take that finds its page taken is made again
+  take_again : (a : OwnerState) (x : Action) → owner_ended a ≡ false → next_action a ≡ x → FindsTaken x (found_by c m seat x) → owner_after a (heard_of c m seat x) ≡ a
+  take_again a (actions.Step (Take page)) going is taken =
+      let word : ℕ = found_by c m seat (actions.Step (Take page)) in
+      ap (λ (b : Bool). cond b a (after_action a (Word word) (next_action a))) going
+      ∙ (ap (λ (y : Action). after_action a (Word word) y) is
+      ∙ ap (λ (k : ℕ). if k == 0 then one_made (record a { found = word }) else a) taken)
+  take_again a (actions.Step Draw) going is taken = absurd taken
+  take_again a (actions.Step (Load cell)) going is taken = absurd taken
+  take_again a (actions.Step (Store frame cell value)) going is taken = absurd taken
+  take_again a (actions.Step (Mark frame)) going is taken = absurd taken
+  take_again a (actions.Step (Release end)) going is taken = absurd taken
+  take_again a (actions.Move step) going is taken = absurd taken
+  take_again a (actions.Space call) going is taken = absurd taken
+  take_again a actions.Ended going is taken = absurd taken
+
+-- ---- an action, and a turn
+
+module _ (s : Scenario) (m : Machine) (kept : IsKept s m) where
+  -- an owner's view is there
+  pub view_at : (i : ℕ) (a : OwnerState) → slice_get m.owners i ≡ Some a → Has m.snapshot.views (suc i) (view_of m.snapshot.views (suc i))
+  view_at i a at = slice_get-get_or m.snapshot.views (suc i) spent (omega (arith, within m.owners i a at, kept.seats.owners, kept.seats.seats))
+
+  pub fits_at : (i : ℕ) (a : OwnerState) → slice_get m.owners i ≡ Some a → Fits s.geometry (opening s) (script_of s.owners (suc i)) (view_of m.snapshot.views (suc i)) a
+  fits_at i a at = (kept.seats.fits i a (view_of m.snapshot.views (suc i)) at (view_at i a at)).1
+
+  module _ (i : ℕ) (a : OwnerState) (at : slice_get m.owners i ≡ Some a) (going : owner_ended a ≡ false) where
+    left_after : all_actions_left (after_turn (setting s) m (Owner (suc i))) + actions_left a ≡ all_actions_left m + actions_left (owner_after a (heard_at (setting s) m i a))
+    left_after =
+        let new : OwnerState = owner_after a (heard_at (setting s) m i a) in
+        let sum = ap (λ (l : List OwnerState). sum_by actions_left l) (owners_after (setting s) m i a at going) in
+        omega (arith, sum, sum_by_replaced actions_left m.owners i a new at)
+
+    -- an action, which is no take that finds its page taken, lowers them
+    pub action_lowers : ¬ FindsTaken (next_action a) (found_at (setting s) m i a) → all_actions_left (after_turn (setting s) m (Owner (suc i))) < all_actions_left m
+    action_lowers free =
+        let fits = fits_at i a at in
+        let heard : Heard = heard_at (setting s) m i a in
+        let fewer = actions_fewer a heard fits.under_way going (λ word e taken. free (finds_what_it_hears (setting s) m (suc i) (next_action a) word e taken)) in
+        omega (arith, left_after, fewer)
+
+    action_keeps : FindsTaken (next_action a) (found_at (setting s) m i a) → all_actions_left (after_turn (setting s) m (Owner (suc i))) ≤ all_actions_left m
+    action_keeps taken =
+        let same = ap actions_left (take_again (setting s) m (suc i) a (next_action a) going refl taken) in
+        omega (arith, left_after, same)
+
+    action_never_raises : all_actions_left (after_turn (setting s) m (Owner (suc i))) ≤ all_actions_left m
+    action_never_raises = ⊎_elim action_keeps (λ free. let l = action_lowers free in omega arith) (finds_taken_or_not (next_action a) (found_at (setting s) m i a))
+
+  pub turn_never_raises : (actor : Actor) → all_actions_left (after_turn (setting s) m actor) ≤ all_actions_left m
+  turn_never_raises actor = by_kind (turn_of (setting s) m actor) where
+    by_kind : TurnOf (setting s) m actor → all_actions_left (after_turn (setting s) m actor) ≤ all_actions_left m
+    by_kind (rests e) = let same = ap all_actions_left e in omega arith
+    by_kind (acts i a is at going) =
+        let same = ap (λ (x : Actor). all_actions_left (after_turn (setting s) m x)) is in
+        omega (arith, same, action_never_raises i a at going)
+
+-- ---- turns
+
+-- each turn keeps the machine, as its law says
+abbrev pub TurnsKeep : Scenario → Type 0
+TurnsKeep s = (m : Machine) (actor : Actor) → IsKept s m → IsKept s (after_turn (setting s) m actor)
+
+module _ (s : Scenario) (keep : TurnsKeep s) where
+  pub turns_keep : (m : Machine) (xs : List Actor) → IsKept s m → IsKept s (after_turns (setting s) m xs)
+  turns_keep m [] kept = kept
+  turns_keep m (x ∷ xs) kept = turns_keep (after_turn (setting s) m x) xs (keep m x kept)
+
+  pub turns_never_raise : (m : Machine) (xs : List Actor) → IsKept s m → all_actions_left (after_turns (setting s) m xs) ≤ all_actions_left m
+  turns_never_raise m [] kept = omega arith
+  turns_never_raise m (x ∷ xs) kept =
+      omega (arith, turns_never_raise (after_turn (setting s) m x) xs (keep m x kept), turn_never_raises s m kept x)
