@@ -1,5 +1,5 @@
 -- What a machine leaves whose owners have all ended.
-use Rattle.std.proofs.Common.{◌≡◌, ◌≢◌, ℕ, zero, suc, ◌+◌, ◌*◌, ◌^◌, ◌<◌, ◌≤◌, ◌⊎◌, inl, inr, cond, eqb, Bool, true, false, List, [], ◌∷◌, length, refl, ap, sym, ◌∙◌, subst, arith, Option, Some, None, IsSome}
+use Rattle.std.proofs.Common.{◌≡◌, ℕ, ◌<◌, cond, eqb, Bool, true, false, List, [], ◌∷◌, refl, ap, sym, subst, arith, Option, Some, None, IsSome}
 use Rattle.std.specs.List.{slice_get, count_by}
 use Rattle.std.proofs.lemmas.Bool.{eqb-true}
 use mathlib.Core.Logic.{dite}
@@ -8,43 +8,32 @@ use Rattle.evac_model.specs.declared.entry.Entry.{Entry}
 use Rattle.evac_model.specs.declared.scenario.Actor.{Actor}
 use Rattle.evac_model.specs.declared.scenario.Scenario.{Scenario}
 use Rattle.evac_model.specs.Scenarios.{IsRunnable}
-use Rattle.evac_model.specs.Scripts.{script_of}
 use Rattle.evac_model.proofs.Bounds.{power_to_512_least}
-use Rattle.evac_words.specs.Word.{mapped_bit, frame_of}
+use Rattle.evac_words.specs.Word.{frame_of}
 use Rattle.core_state.specs.declared.held.Held.{Held}
 use Rattle.core_state.specs.declared.view.View.{View}
 use Rattle.core_state.specs.Words.{next_ticket_of, entry_word_of}
-use Rattle.core_state.specs.Views.{Has, maps_to}
+use Rattle.core_state.specs.Views.{maps_to}
 use Rattle.core_state.specs.Parts.{uses, uses_of, drawn_as}
 use Rattle.core_state.specs.Pages.{entry_with}
-use Rattle.core_state.specs.Frames.{all_entry_words, times_mapped}
+use Rattle.core_state.specs.Frames.{all_entry_words}
 use Rattle.core_state.specs.Histories.{AllLetGo}
 use Rattle.core_state.proofs.Cells.{at_entry}
 use Rattle.core_state.proofs.Frames.{maps_to-one}
 use Rattle.core_state.proofs.Lists.{sum_by_member, member_le_sum_by}
-use Rattle.core_actors.proofs.Ends.{held_at_end}
-use Rattle.replay.specs.Machine.{Machine, Run, run_after, after_turn, after_turns}
+use Rattle.replay.specs.Machine.{Machine, after_turn, after_turns}
 use Rattle.replay.specs.Keeping.{IsKept}
-use Rattle.replay.specs.Runs.{opening, AllEnded}
+use Rattle.replay.specs.Runs.{opening, setting, AllEnded}
 use Rattle.replay.specs.Shown.{MapsInside}
+use Rattle.replay.proofs.EndedOwners.{let_go}
 use Rattle.replay.proofs.Kept.{turns_are_kept}
-use Rattle.replay.proofs.Members.{there, member_found}
+use Rattle.replay.proofs.Members.{member_found}
 
 -- ---- turns keep the machine
 
-pub all_turns_keep : (s : Scenario) (m : Machine) (turns : List Actor) → IsRunnable s → IsKept s m → IsKept s (after_turns (opening s) m turns)
+pub all_turns_keep : (s : Scenario) (m : Machine) (turns : List Actor) → IsRunnable s → IsKept s m → IsKept s (after_turns (setting s) m turns)
 all_turns_keep s m [] runnable kept = kept
-all_turns_keep s m (x ∷ xs) runnable kept = all_turns_keep s (after_turn (opening s) m x) xs runnable (turns_are_kept s m x runnable kept)
-
--- ---- no page is held
-
-pub let_go : (s : Scenario) (m : Machine) → IsKept s m → AllEnded m.owners → AllLetGo m.snapshot.views
-let_go s m kept ended zero v at = (kept.others zero v at (inl refl)).1
-let_go s m kept ended (suc i) v at = dite (dec_le (suc i) (length s.owners))
-    (λ le.
-    let a = there m.owners i (let n = kept.owners in omega arith) in
-    held_at_end s.geometry (opening s) v (script_of s.owners (suc i)) a.0 (kept.fits i a.0 v a.1 at).1 (ended i a.0 a.1))
-    (λ gt. (kept.others (suc i) v at (inr (omega arith))).1)
+all_turns_keep s m (x ∷ xs) runnable kept = all_turns_keep s (after_turn (setting s) m x) xs runnable (turns_are_kept s m x runnable kept)
 
 -- ---- each ticket has its entry
 
@@ -72,22 +61,22 @@ has_entry views t go once =
     some_there (entry_with t views) e.1 (member_found t views r.0 r.1 e.0 e.1 r.2 e.2 e.3 (omega arith))
 
 pub each_ticket : (s : Scenario) (m : Machine) → IsKept s m → AllEnded m.owners → (t : ℕ) → t < next_ticket_of m.snapshot.words → IsSome (entry_with t m.snapshot.views)
-each_ticket s m kept ended t lt = has_entry m.snapshot.views t (let_go s m kept ended) (kept.sound.tickets.each_once t (omega arith) lt)
+each_ticket s m kept ended t lt = has_entry m.snapshot.views t (let_go s m kept ended) (kept.seats.sound.tickets.each_once t (omega arith) lt)
 
 -- ---- pages can be read
 
 pub maps_inside : (s : Scenario) (m : Machine) → IsRunnable s → IsKept s m → MapsInside (opening s) m.snapshot.words
 maps_inside s m runnable kept = record {
-  long = kept.sound.shaped.long;
+  long = kept.seats.sound.shaped.long;
   small = record { pages = runnable.limits.pages.1; frames = runnable.limits.frames; cells = runnable.limits.total_cells };
   cells = power_to_512_least s.geometry.cells runnable.limits.cells;
   frames = λ page lt mapped.
       let w = entry_word_of m.snapshot.words page in
       dite (dec_le (opening s).frames (frame_of w))
       (λ le.
-      let none = kept.sound.frames.no_other (frame_of w) le in
+      let none = kept.seats.sound.frames.no_other (frame_of w) le in
       let one = maps_to-one (frame_of w) w mapped refl in
-      let some = member_le_sum_by (λ x. maps_to (frame_of w) x) (all_entry_words (opening s) m.snapshot.words) page w (at_entry (opening s) m.snapshot.words page kept.sound.shaped lt) in
+      let some = member_le_sum_by (λ x. maps_to (frame_of w) x) (all_entry_words (opening s) m.snapshot.words) page w (at_entry (opening s) m.snapshot.words page kept.seats.sound.shaped lt) in
       absurd (omega arith))
       (λ gt. omega arith);
 }

@@ -34,11 +34,6 @@ module _ {A : Type 0} where
   get_or_at P (x ∷ xs) zero d h p = h.0
   get_or_at P (x ∷ xs) (suc i) d h p = get_or_at P xs i d h.1 p
 
-  pub get_or_past : (l : List A) (i : ℕ) (d : A) → length l ≤ i → get_or l i d ≡ d
-  get_or_past [] i d h = refl
-  get_or_past (x ∷ xs) zero d h = absurd (omega arith)
-  get_or_past (x ∷ xs) (suc i) d h = get_or_past xs i d (omega arith)
-
   pub numbered_at : (n : ℕ) (l : List A) (i q : ℕ) (a : A) → slice_get (enumerate_from n l) i ≡ Some (q, a) → slice_get l i ≡ Some a
   numbered_at n [] i q a e = absurd (none-some (q, a) e)
   numbered_at n (x ∷ xs) zero q a e = ap (λ (p : ℕ × A). Some p.1) (same_Some (n, x) (q, a) e)

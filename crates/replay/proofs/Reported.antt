@@ -1,45 +1,49 @@
--- What a machine leaves whose owners have all ended: a legal history, each script call once, and the pages
--- after it.
-use Rattle.std.proofs.Common.{◌≡◌, ◌≢◌, ℕ, eqb, cond, Bool, true, false, eq-eqb, ne_eqb, zero, suc, ◌+◌, ◌-◌, ◌/◌, ◌%◌, ◌<◌, ◌≤◌, ◌⊎◌, List, [], ◌∷◌, ◌++◌, length, map, get_or, filter, sym, refl, ap, ◌∙◌, subst, inl, inr, ⊎_elim, arith, Option, Some, None}
+-- What a machine leaves whose owners have all ended: a legal history, each script call once, the pages after it,
+-- and their frames.
+use Rattle.std.proofs.Common.{◌≡◌, ◌≢◌, ℕ, cond, Bool, eq-eqb, ne_eqb, zero, suc, ◌+◌, ◌<◌, ◌≤◌, List, [], ◌++◌, length, map, get_or, sym, refl, ap, ◌∙◌, subst, arith, Option, Some, None}
 use Rattle.std.specs.Option.{option_map}
-use Rattle.std.specs.List.{slice_get, enumerate_from, AllByRecursion}
+use Rattle.std.specs.List.{slice_get, AllByRecursion}
 use Rattle.std.specs.List.Sorted.{IsStrictlyIncreasing}
+use Rattle.std.proofs.lemmas.List.{get_or_past}
 use Rattle.std.proofs.lemmas.Option.{same_Some, none-some, slice_get-map}
 use mathlib.Core.Logic.{dite}
-use native.Mathlib.Decide.{ℕ_discrete, dec_le}
+use native.Mathlib.Decide.{dec_le}
 use Rattle.evac_model.specs.declared.entry.Entry.{Entry}
-use Rattle.evac_model.specs.declared.names.PageNo.{PageNo}
-use Rattle.evac_model.specs.declared.call.Call.{Call}
+use Rattle.evac_model.specs.declared.names.BlockNo.{BlockNo}
 use Rattle.evac_model.specs.declared.scenario.Scenario.{Scenario}
-use Rattle.evac_model.specs.Page.{Page}
+use Rattle.evac_model.specs.declared.space.SpaceAction.{SpaceAction}
+use Rattle.evac_model.specs.Page.{PlainPage, Page}
+use Rattle.evac_model.specs.Pairing.{AreOutForPages, AreUnplugged}
+use Rattle.evac_model.specs.ScenarioGrammar.{online_of}
 use Rattle.evac_model.specs.Scenarios.{IsRunnable, IsOwnerCall}
+use Rattle.evac_model.specs.SpaceJournal.{space_after, space_at_start}
 use Rattle.evac_model.specs.State.{PlainState, page_at}
-use Rattle.evac_model.specs.History.{after_entries, IsLegal}
-use Rattle.evac_model.specs.Scripts.{script_of, numbered_call, entries_of, IsOfScripts}
+use Rattle.evac_model.specs.History.{after_entries}
+use Rattle.evac_model.specs.Scripts.{script_of, numbered_call}
 use Rattle.evac_model.proofs.Tables.{get-table_map}
 use Rattle.evac_words.specs.Word.{mapped_bit, frame_of, pins_of}
 use Rattle.core_state.specs.declared.opening.Opening.{Opening}
 use Rattle.core_state.specs.declared.view.View.{View}
-use Rattle.core_state.specs.Words.{next_ticket_of, entry_word_of, cells_of_frame, kind_in}
-use Rattle.core_state.specs.Views.{Has}
-use Rattle.core_state.specs.Parts.{uses}
-use Rattle.core_state.specs.Pages.{entry_with, page_after, FreeShows, Shows}
+use Rattle.core_state.specs.Words.{entry_word_of, cells_of_frame, kind_in}
+use Rattle.core_state.specs.Pages.{entry_with, page_after, FreeShows}
 use Rattle.core_state.specs.CoreOpens.{start_pages}
-use Rattle.core_state.specs.Histories.{IsOpeningState, IsHistoryOf, AllLetGo}
+use Rattle.core_state.specs.Histories.{IsOpeningState}
 use Rattle.core_state.proofs.CoreRooms.{start_pages_plain}
 use Rattle.core_state.proofs.Starts.{length-start_pages}
-use Rattle.core_state.proofs.Entries.{entry_with-found, page_after-quiet}
+use Rattle.core_state.proofs.Entries.{page_after-quiet}
 use Rattle.core_state.proofs.Histories.{from_opening, histories_are_legal, words_show_the_history}
-use Rattle.core_actors.specs.Owners.{OwnerState}
-use Rattle.core_actors.specs.Fits.{Fits}
-use Rattle.core_actors.proofs.Ends.{entries_at_end, held_at_end}
 use Rattle.report.specs.declared.report.Report.{Report}
 use Rattle.report.specs.FinalPages.{final_page, pages_below, state_of}
 use Rattle.report.proofs.PageLaws.{numbers, state_of-pages_below, rising-below}
+use Rattle.replay.specs.FramesOut.{space_now}
 use Rattle.replay.specs.Machine.{Machine}
-use Rattle.replay.specs.Runs.{opening, plain_start, shown_page, shown_below, AllEnded, IsReportAfter, IsReportOf}
+use Rattle.replay.specs.Runs.{opening, plain_start, shown_page, shown_below, AllEnded, IsReportAfter, space_reported, IsReportOf}
 use Rattle.replay.specs.Keeping.{IsKept}
-use Rattle.replay.proofs.Members.{there, all_at, all_from, get_or_at, get_or_past, numbered_at, InSome, entry_with-member, member_uses, member_found, of_caller}
+use Rattle.replay.proofs.Callers.{found_at, of_owner, of_scripts}
+use Rattle.replay.proofs.EndCalls.{paired_at_end}
+use Rattle.replay.proofs.EndedOwners.{let_go}
+use Rattle.replay.proofs.EndFrames.{frames_at_end, unplugged_at_end}
+use Rattle.replay.proofs.Members.{there, all_at, get_or_at, numbered_at}
 
 -- ---- pages as the words show them
 
@@ -76,109 +80,25 @@ module _ (s : Scenario) (m : Machine) (r : Report) (run : IsRunnable s) (k : IsK
   abbrev views : List View
   views = m.snapshot.views
 
-  -- the seat of an owner, which has ended
-  pub record IsOwners (i : ℕ) (v : View) : Type 0 where
-    pub place : ℕ
-    pub seat : i ≡ suc place
-    pub low : place < length s.owners
-    pub entries : map numbered_call v.entries ≡ enumerate_from 0 (script_of s.owners i)
-    pub held : v.held ≡ None
-    pub callers : AllByRecursion (λ e. e.caller ≡ i) v.entries
-
-  owners_seat : (i : ℕ) (v : View) → i < length s.owners → Has views (suc i) v → IsOwners (suc i) v
-  owners_seat i v low at =
-      let a = there m.owners i (let n = k.owners in omega arith) in
-      let f = k.fits i a.0 v a.1 at in
-      record {
-        place = i;
-        seat = refl;
-        low = low;
-        entries = entries_at_end s.geometry o v (script_of s.owners (suc i)) a.0 f.1 (ended i a.0 a.1);
-        held = held_at_end s.geometry o v (script_of s.owners (suc i)) a.0 f.1 (ended i a.0 a.1);
-        callers = subst (λ (n : ℕ). AllByRecursion (λ e. e.caller ≡ n) v.entries) f.0 f.1.callers;
-      }
-
-  -- a seat is an owner's, or has done nothing
-  seats : (i : ℕ) (v : View) → Has views i v → IsOwners i v ⊎ ((v.entries ≡ []) × (v.held ≡ None))
-  seats zero v at = inr (k.others zero v at (inl refl))
-  seats (suc i) v at = dite (dec_le (suc i) (length s.owners))
-      (λ le. inl (owners_seat i v (omega arith) at))
-      (λ gt. inr (k.others (suc i) v at (inr (omega arith))))
-
-  let_go : AllLetGo views
-  let_go i v at = ⊎_elim (λ p. p.held) (λ q. q.1) (seats i v at)
-
   opens : IsOpeningState o (plain_start s)
   opens page = ap (λ st. page_at st page) (sym (start_pages_plain s.geometry s.start run.start.each)) ∙ get-table_map (start_pages s.geometry s.start) page
 
-  count : length r.history ≡ next_ticket_of words
-  count = omega (arith, rep.history.count)
-
-  found_at : (j : ℕ) (e : Entry) → slice_get r.history j ≡ Some e → entry_with j views ≡ Some e
-  found_at j e at = let same : o.first + j ≡ j = omega arith in subst (λ (n : ℕ). entry_with n views ≡ Some e) same (rep.history.each j e at)
-
-  -- an entry of a view stands in the history at its ticket
-  stands : (i : ℕ) (v : View) (p : ℕ) (e : Entry) → Has views i v → slice_get v.entries p ≡ Some e → slice_get r.history e.ticket ≡ Some e
-  stands i v p e at is =
-      let used = member_uses e.ticket views i v p e at is refl in
-      let low : e.ticket < next_ticket_of words = dite (dec_le (next_ticket_of words) e.ticket) (λ le. let none = k.sound.tickets.none_from e.ticket le in absurd (omega arith)) (λ lt. omega arith) in
-      let once = k.sound.tickets.each_once e.ticket (omega arith) low in
-      let x = there r.history e.ticket (let c = count in omega arith) in
-      let same : Some x.0 ≡ Some e = sym (found_at e.ticket x.0 x.1) ∙ member_found e.ticket views i v p e at is refl (omega arith) in
-      x.1 ∙ same
-
-  tickets : (j : ℕ) (e : Entry) → slice_get r.history j ≡ Some e → e.ticket ≡ 0 + j
-  tickets j e at = let f = (entry_with-found j views e (found_at j e at)).0 in omega arith
-
-  -- an entry of the history is one of an owner's
-  of_owner : (j : ℕ) (e : Entry) → slice_get r.history j ≡ Some e → (i : ℕ) × (v : View) × (p : ℕ) × Has views i v × (slice_get v.entries p ≡ Some e) × IsOwners i v
-  of_owner j e at = let x = entry_with-member j views e (found_at j e at) in
-      ⊎_elim
-      (λ own. (x.0, x.1, x.2, x.3, x.4, own))
-      (λ none. absurd (none-some e (sym (ap (λ (l : List Entry). slice_get l x.2) none.0) ∙ x.4)))
-      (seats x.0 x.1 x.3)
-
-  -- whoever has no script makes no call
-  none : (c : ℕ) → ((place : ℕ) → place < length s.owners → suc place ≢ c) → entries_of c r.history ≡ []
-  none c apart = of_caller c 0 r.history [] tickets tt tt tt (λ p e q. absurd (none-some e q))
-      (λ j e at is. let x = of_owner j e at in
-      absurd (apart x.5.place x.5.low (sym x.5.seat ∙ sym (all_at (λ (z : Entry). z.caller ≡ x.0) x.1.entries x.2 e x.5.callers x.4) ∙ is)))
-
-  -- the entries of an owner are those of its seat
-  mine : (i : ℕ) (v : View) → i < length s.owners → Has views (suc i) v → entries_of (suc i) r.history ≡ v.entries
-  mine i v low at = let own = owners_seat i v low at in
-      of_caller (suc i) 0 r.history v.entries tickets (k.in_order (suc i) v at).rising
-      (all_from (λ (e : Entry). 0 ≤ e.ticket) v.entries (λ p e q. omega arith))
-      own.callers
-      (λ p e q. let back : e.ticket - 0 ≡ e.ticket = omega arith in ap (slice_get r.history) back ∙ stands (suc i) v p e at q)
-      (λ j e h c. let x = of_owner j e h in
-      let same : x.0 ≡ suc i = sym (all_at (λ (z : Entry). z.caller ≡ x.0) x.1.entries x.2 e x.5.callers x.4) ∙ c in
-      let view : x.1 ≡ v = same_Some x.1 v (sym x.3 ∙ ap (slice_get views) same ∙ at) in
-      (x.2, ap (λ (z : View). slice_get z.entries x.2) (sym view) ∙ x.4))
-
-  scripts : IsOfScripts s.owners r.history
-  scripts zero = ap (map numbered_call) (none zero (λ place lt q. omega arith))
-  scripts (suc i) = dite (dec_le (suc i) (length s.owners))
-      (λ le. let v = there views (suc i) (let n = k.seats in omega arith) in
-      ap (map numbered_call) (mine i v.0 (omega arith) v.1) ∙ (owners_seat i v.0 (omega arith) v.1).entries)
-      (λ gt. ap (map numbered_call) (none (suc i) (λ place lt q. omega arith)) ∙ sym (ap (enumerate_from 0) (get_or_past s.owners i [] (omega arith))))
-
-  -- ---- pages
-
   -- an entry is of a page of the machine
   in_range : (j : ℕ) (e : Entry) → slice_get r.history j ≡ Some e → e.page.0 < s.geometry.pages
-  in_range j e at = let x = of_owner j e at in
-      let numbered : slice_get (map numbered_call x.1.entries) x.2 ≡ Some (numbered_call e) = slice_get-map numbered_call x.1.entries x.2 ∙ ap (λ (q : Option Entry). option_map numbered_call q) x.4 in
-      let called : slice_get (script_of s.owners x.0) x.2 ≡ Some (e.page, e.call) = numbered_at 0 (script_of s.owners x.0) x.2 e.call_no (e.page, e.call) (ap (λ l. slice_get l x.2) (sym x.5.entries) ∙ numbered) in
-      let script : slice_get (get_or s.owners x.5.place []) x.2 ≡ Some (e.page, e.call) = subst (λ (n : ℕ). slice_get (script_of s.owners n) x.2 ≡ Some (e.page, e.call)) x.5.seat called in
-      (all_at (IsOwnerCall s.geometry) (get_or s.owners x.5.place []) x.2 (e.page, e.call)
-      (get_or_at (λ calls. AllByRecursion (IsOwnerCall s.geometry) calls) s.owners x.5.place [] run.calls tt) script).page
+  in_range j e at =
+      let x = of_owner s m k ended r.history rep.history j e at in
+      let numbered : slice_get (map numbered_call x.view.entries) x.number ≡ Some (numbered_call e) = slice_get-map numbered_call x.view.entries x.number ∙ ap (λ (q : Option Entry). option_map numbered_call q) x.here in
+      let called : slice_get (get_or s.owners x.place []) x.number ≡ Some (e.page, e.call) = numbered_at 0 (script_of s.owners (suc x.place)) x.number e.call_no (e.page, e.call) (ap (λ l. slice_get l x.number) (sym x.seat.entries) ∙ numbered) in
+      (all_at (IsOwnerCall s.geometry) (get_or s.owners x.place []) x.number (e.page, e.call)
+      (get_or_at (λ calls. AllByRecursion (IsOwnerCall s.geometry) calls) s.owners x.place [] run.calls tt) called).page
+
+  -- ---- the pages
 
   abbrev st : PlainState
   st = after_entries s.geometry.cells (plain_start s) r.history
 
   page_is : (page : ℕ) → page_at st page ≡ page_after o views page (0 + length r.history)
-  page_is page = (from_opening o words views (plain_start s) r.history k.sound opens rep.history).1 page
+  page_is page = (from_opening o words views (plain_start s) r.history k.seats.sound opens rep.history).1 page
 
   beyond : (page : ℕ) → s.geometry.pages ≤ page → page_at st page ≡ None
   beyond page high =
@@ -186,22 +106,42 @@ module _ (s : Scenario) (m : Machine) (r : Report) (run : IsRunnable s) (k : IsK
       ∙ page_after-quiet o views page 0 (length r.history) (λ u e low lt found q.
       let x = there r.history u (omega arith) in
       let zero_up : o.first + u ≡ u = omega arith in
-      let same : x.0 ≡ e = same_Some x.0 e (sym (found_at u x.0 x.1) ∙ subst (λ (n : ℕ). entry_with n views ≡ Some e) zero_up found) in
+      let same : x.0 ≡ e = same_Some x.0 e (sym (found_at s m k ended r.history rep.history u x.0 x.1) ∙ subst (λ (n : ℕ). entry_with n views ≡ Some e) zero_up found) in
       let range = in_range u x.0 x.1 in
       let on : x.0.page.0 ≡ page = ap (λ (z : Entry). z.page.0) same ∙ q in omega arith)
       ∙ get_or_past (start_pages s.geometry s.start) page None (let n = length-start_pages s.geometry s.start in omega arith)
 
-  shown : (page : ℕ) → page < s.geometry.pages → shown_page o words page ≡ page_at st page
-  shown page lt = shown-free o words page (page_at st page) (words_show_the_history o words views (plain_start s) r.history k.sound opens rep.history let_go page lt)
+  mapped_below : (page : ℕ) (p : PlainPage) → page_at st page ≡ Some p → page < s.geometry.pages
+  mapped_below page p is = dite (dec_le s.geometry.pages page)
+      (λ high. absurd (none-some p (sym (beyond page high) ∙ is)))
+      (λ low. omega arith)
+
+  shows : (page : ℕ) → page < s.geometry.pages → FreeShows o words (entry_word_of words page) (page_at st page)
+  shows page lt = words_show_the_history o words views (plain_start s) r.history k.seats.sound opens rep.history (let_go s m k ended) page lt
 
   pages : r.pages ≡ pages_below st s.geometry.pages
-  pages = rep.pages ∙ shown-below o words st s.geometry.pages shown
+  pages = rep.pages ∙ shown-below o words st s.geometry.pages (λ page lt. shown-free o words page (page_at st page) (shows page lt))
+
+  -- ---- the frames
+
+  frames : AreOutForPages (space_reported s r) st
+  frames =
+      subst (λ (journal : List SpaceAction). AreOutForPages (space_after s.geometry (online_of s) (space_at_start s.geometry s.start) journal) st) (sym rep.space)
+      (frames_at_end s m run k ended st shows mapped_below)
+
+  offline : AreUnplugged s.geometry (space_reported s r) r.plugged
+  offline =
+      subst (λ (journal : List SpaceAction). AreUnplugged s.geometry (space_after s.geometry (online_of s) (space_at_start s.geometry s.start) journal) r.plugged) (sym rep.space)
+      (subst (λ (plugged : List BlockNo). AreUnplugged s.geometry (space_now s m) plugged) (sym rep.plugged) (unplugged_at_end s m run k))
 
   pub reports_tell_legal_histories : IsReportOf s r
   reports_tell_legal_histories = record {
-    legal = histories_are_legal o words views (plain_start s) r.history k.sound opens rep.history;
-    scripts = scripts;
+    legal = histories_are_legal o words views (plain_start s) r.history k.seats.sound opens rep.history;
+    scripts = of_scripts s m k ended r.history rep.history;
     pages = ap state_of pages ∙ state_of-pages_below st s.geometry.pages beyond;
     rising = subst (λ ps. IsStrictlyIncreasing (numbers ps)) (sym pages) (rising-below st s.geometry.pages).0;
     plugged = rep.plugged;
+    space = paired_at_end s m r run k ended rep;
+    frames = frames;
+    offline = offline;
   }
