@@ -32,9 +32,12 @@ pub mod Ends
 pub mod Schedules
 pub mod Places
 pub mod Playing
+pub mod EndedOwners
 pub mod Left
 pub mod Done
 pub mod Lengths
+pub mod Callers
 pub mod Reported
+pub mod EndCalls
 pub mod EndFrames
 pub mod SmallRuns
