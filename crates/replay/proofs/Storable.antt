@@ -1,5 +1,5 @@
 -- The steps of calls with numbers of 64 bits store numbers of 64 bits.
-use Rattle.std.proofs.Common.{ℕ, suc, zero, eqb, ◌+◌, ◌%◌, ◌<◌, ◌^◌, Bool, true, false, List, [], ◌∷◌, ◌++◌, map, get_or, arith, if◌then◌else◌}
+use Rattle.std.proofs.Common.{◌≡◌, ℕ, suc, zero, eqb, ◌+◌, ◌%◌, ◌<◌, ◌^◌, Bool, true, false, List, [], ◌∷◌, ◌++◌, map, get_or, subst, lit<, arith, if◌then◌else◌}
 use Rattle.std.specs.List.{AllByRecursion, range_with_len}
 use Rattle.evac_model.specs.declared.names.FrameNo.{FrameNo}
 use Rattle.evac_model.specs.declared.names.PageNo.{PageNo}
@@ -8,23 +8,16 @@ use Rattle.evac_model.specs.declared.call.Call.TheVariants.{Alloc, Free, Read, W
 use Rattle.evac_model.specs.ScenarioLines.{IsNumber, HasNumbers}
 use Rattle.evac_words.specs.Word.{mapped_bit, frame_of}
 use Rattle.core_state.specs.declared.step.Step.{Step}
-use Rattle.core_state.specs.declared.step.Step.TheVariants.{Draw, Load, Mark}
+use Rattle.core_state.specs.declared.step.Step.TheVariants.{Load, Store, Mark}
+use Rattle.core_actors.specs.declared.action.Action.{Action}
+use Rattle.core_actors.specs.declared.action.Action.TheVariants as actions
+use Rattle.core_actors.specs.declared.action.LeaseSeen.{LeaseSeen}
+use Rattle.core_actors.specs.declared.action.LeaseSeen.TheVariants.{NotAsked, Got, Refused}
 use Rattle.core_actors.specs.Actions.{IsStorable}
-use Rattle.core_actors.specs.CallSteps.{store_steps, cell_steps, middle_steps, call_steps}
-use Rattle.core_actors.specs.Owners.{OwnerState, step_of, next_step}
+use Rattle.core_actors.specs.CallSteps.{store_steps, cell_steps, middle_steps, zeroing}
+use Rattle.core_actors.specs.Owners.{OwnerState, next_action}
 use Rattle.replay.specs.Keeping.{HaveNumbers}
-
--- ---- facts of each element
-
-all_append : {X : Type 0} → (P : X → Type 0) (xs ys : List X) → AllByRecursion P xs → AllByRecursion P ys → AllByRecursion P (xs ++ ys)
-all_append P [] ys h k = k
-all_append P (x ∷ xs) ys h k = (h.0, all_append P xs ys h.1 k)
-
--- an element, or the one that stands past the end
-all_or : {X : Type 0} → (P : X → Type 0) (xs : List X) (i : ℕ) (d : X) → AllByRecursion P xs → P d → P (get_or xs i d)
-all_or P [] i d h p = p
-all_or P (x ∷ xs) zero d h p = h.0
-all_or P (x ∷ xs) (suc i) d h p = all_or P xs i d h.1 p
+use Rattle.replay.proofs.NextActions.{IsSuch, HasSuch, all_append, next_such}
 
 -- ---- the steps of a call
 
@@ -57,13 +50,22 @@ middle_storable found loads call h = by_bit (eqb (mapped_bit found) 1) where
   by_bit true = cells_storable (record { 0 = frame_of found }) loads call h
   by_bit false = tt
 
-steps_storable : (page : PageNo) (call : Call) (found : ℕ) (loads : List ℕ) → HasNumbers call → AreStorable (call_steps page call found loads)
-steps_storable page call found loads h = (tt, (tt, all_append IsStorable (middle_steps found loads call) _ (middle_storable found loads call h) (tt, tt)))
+zeros_storable : (frame : FrameNo) (cells : List ℕ) → AreStorable (map (λ cell. Store frame cell 0) cells)
+zeros_storable frame [] = tt
+zeros_storable frame (x ∷ xs) = (lit< tt, zeros_storable frame xs)
 
-step_of_storable : (left : List (PageNo × Call)) (a : OwnerState) → HaveNumbers left → IsStorable (step_of left a)
-step_of_storable [] a h = tt
-step_of_storable (c ∷ cs) a h = all_or IsStorable (call_steps c.0 c.1 a.found a.loads) a.made Draw (steps_storable c.0 c.1 a.found a.loads h.0) tt
+zeroing_storable : (cells : ℕ) (lease : LeaseSeen) → AreStorable (zeroing cells lease)
+zeroing_storable cells NotAsked = tt
+zeroing_storable cells (Got frame) = all_append IsStorable (map (λ cell. Store frame cell 0) (range_with_len 0 cells)) (Mark frame ∷ []) (zeros_storable frame (range_with_len 0 cells)) (tt, tt)
+zeroing_storable cells (Refused at) = tt
+
+-- ---- the next step
+
+calls_storable : (calls : List (PageNo × Call)) (a : OwnerState) → HaveNumbers calls → AllByRecursion (λ c. HasSuch IsStorable a.cells c.1 a.lease a.found a.loads) calls
+calls_storable [] a h = tt
+calls_storable (c ∷ cs) a h =
+    (record { zeros = zeroing_storable a.cells a.lease; take = λ page. tt; draw = tt; middle = middle_storable a.found a.loads c.1 h.0; release = tt }, calls_storable cs a h.1)
 
 -- an owner's next step stores a number of 64 bits, if any
-pub next_step_storable : (a : OwnerState) → HaveNumbers a.left → IsStorable (next_step a)
-next_step_storable a h = step_of_storable a.left a h
+pub next_step_storable : (a : OwnerState) (step : Step) → HaveNumbers a.left → next_action a ≡ actions.Step step → IsStorable step
+next_step_storable a step h is = subst (λ (x : Action). IsSuch IsStorable x) is (next_such IsStorable a tt (calls_storable a.left a h))

@@ -16,9 +16,7 @@ use crate::pages::{final_pages, plugged_blocks};
 use crate::schedule;
 use core_actors::Owner;
 use core_state::Core;
-use evac_model::{
-    CallList, Drawn, Geometry, Kind, Listed, OutOfMemory, Scenario, Turn, TurnList,
-};
+use evac_model::{CallList, Drawn, Geometry, Kind, Listed, OutOfMemory, Scenario, Turn, TurnList};
 use report::Report;
 use space::Space;
 use std::alloc::{AllocError, Global};
@@ -102,8 +100,8 @@ fn report_of(alloc: Global, geometry: &Geometry, run: &Running) -> Result<Report
 }
 
 /// The replay of one scenario: its turns, and the machine at the start. Each turn makes one step of one
-/// actor: the next step of an owner's call on a word, or what it asks of the frame space. The turns are the named ones, those that the generator
-/// draws, and then rounds over all actors until all have ended.
+/// actor: the next step of an owner's call on a word, or what it asks of the frame space. The turns are
+/// the named ones, those that the generator draws, and then rounds over all actors until all have ended.
 #[derive(Drop)]
 pub struct Replay {
     geometry: Geometry,

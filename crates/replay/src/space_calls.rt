@@ -2,7 +2,8 @@
 
 ghost use Rattle.std.specs.Prelude.{◌≡◌, ◌≢◌, ◌<◌, ◌≤◌, length, IfOk, OnErr};
 ghost use Rattle.core_state.specs.CoreState.{IsSound};
-ghost use Rattle.core_actors.specs.Owners.{OwnerState, owner_after};
+ghost use Rattle.core_actors.specs.Actions.{owner_heard};
+ghost use Rattle.core_actors.specs.Owners.{OwnerState};
 ghost use Rattle.evac_model.specs.SpaceJournal.{lease_of};
 ghost use Rattle.space.specs.JournaledSpace.{state_of};
 ghost use Rattle.replay.specs.Machine.{after_lease, after_return, after_call};
@@ -30,12 +31,14 @@ fn lease(
     requires sound { IsSound core.old }
     requires page { page.0 < space.old.sizes.pages }
     requires may { MayLease (setting_of core.old.opening space.old) seat free core.old.snapshot space.old.journal kind }
-    ensures leased { IfOk result (λ heard. (a : OwnerState) → scene core.new.snapshot (owner_after a heard) space.new.journal
+    ensures leased { IfOk result (λ heard. (a : OwnerState) → scene core.new.snapshot (owner_heard a heard) space.new.journal
         ≡ after_lease seat free (scene core.old.snapshot a space.old.journal) page kind (lease_of space.old.sizes space.old.online (state_of space.old) seat kind)) }
     ensures sound { IsSound core.new }
     ensures setting { setting_of core.new.opening space.new ≡ setting_of core.old.opening space.old }
     ensures err { OnErr result ((core.new ≡ core.old) × (space.new ≡ space.old)) }
 {
+    // it is a space, so that a refusal shows that the rules choose no frame
+    let _geometry = space.geometry();
     match space.lease(seat, page, kind) {
         Ok(frame) => {
             hand_over(core, free, seat, frame, 1);
@@ -54,7 +57,7 @@ fn give_back(core: &mut Core, space: &mut Space, seat: u32, free: u32, frame: Fr
     requires caller { seat ≤ 16 }
     requires sound { IsSound core.old }
     requires may { MayReturn (setting_of core.old.opening space.old) seat free core.old.snapshot space.old.journal frame }
-    ensures returned { (a : OwnerState) → scene core.new.snapshot (owner_after a result) space.new.journal
+    ensures returned { (a : OwnerState) → scene core.new.snapshot (owner_heard a result) space.new.journal
         ≡ after_return seat free (scene core.old.snapshot a space.old.journal) frame }
     ensures sound { IsSound core.new }
     ensures setting { setting_of core.new.opening space.new ≡ setting_of core.old.opening space.old }
@@ -80,7 +83,7 @@ pub(crate) fn ask(
     requires caller { seat ≤ 16 }
     requires sound { IsSound core.old }
     requires may { MayAsk (setting_of core.old.opening space.old) seat free core.old.snapshot space.old.journal call }
-    ensures asked { IfOk result (λ heard. (a : OwnerState) → scene core.new.snapshot (owner_after a heard) space.new.journal
+    ensures asked { IfOk result (λ heard. (a : OwnerState) → scene core.new.snapshot (owner_heard a heard) space.new.journal
         ≡ after_call (setting_of core.old.opening space.old) seat free (scene core.old.snapshot a space.old.journal) call) }
     ensures sound { IsSound core.new }
     ensures setting { setting_of core.new.opening space.new ≡ setting_of core.old.opening space.old }

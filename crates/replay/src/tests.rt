@@ -8,7 +8,7 @@ ghost use Rattle.evac_model.specs.Turns.{IsTurn, IsDraw, turn_count};
 use crate::Replay;
 use evac_model::{
     Actor, Call, CallList, Cells, Drawn, Entry, FrameNo, Geometry, Kind, Listed, PageNo, Reply,
-    Scenario, StartPage, Turn,
+    Scenario, SpaceAction, StartPage, Turn,
 };
 use report::Report;
 use std::alloc::Global;
@@ -51,6 +51,17 @@ fn entry(numbers: [u32; 4], call: Call, reply: Reply) -> Entry {
     }
 }
 
+/// A start page that may be moved.
+fn movable(page: u32, frame: u32) -> StartPage
+    ensures { result ≡ record { page = record { 0 = page }; kind = Kind.Movable; frame = record { 0 = frame } } }
+{
+    StartPage {
+        page: PageNo(page),
+        kind: Kind::Movable,
+        frame: FrameNo(frame),
+    }
+}
+
 const START: [StartPage; 2] = [
     StartPage {
         page: PageNo(0),
@@ -63,6 +74,15 @@ const START: [StartPage; 2] = [
         frame: FrameNo(3),
     },
 ];
+
+const ALLOC: Call = Call::Alloc {
+    kind: Kind::Movable,
+};
+
+const ADD_MOST: Call = Call::Add {
+    cell: 1,
+    value: 18_446_744_073_709_551_615,
+};
 
 const READ_ONE: Call = Call::Read { first: 0, count: 1 };
 
@@ -80,20 +100,29 @@ fn turns(owner: u32, count: u32) -> Turn
     }
 }
 
-/// A scenario on a small machine with two start pages.
-fn small(
+/// A small machine.
+fn small() -> Result<Geometry, Fail>
+    ensures { IfOk result (λ g. g ≡ record { cells = 2; block = 4; boot = 2; managed = 4; plugged = 4; pages = 8 }) }
+{
+    Ok(Geometry::new(2, 4, 2, 4, 4, 8)?)
+}
+
+/// A scenario on a machine.
+fn scenario(
     alloc: Global,
+    geometry: Geometry,
+    start: &[StartPage],
     named: &[Turn],
     drawn: Option<Drawn>,
     scripts: Vec<CallList>,
 ) -> Result<Scenario, Fail>
     ensures { IfOk result (λ s. s
-        ≡ record { geometry = record { cells = 2; block = 4; boot = 2; managed = 4; plugged = 4; pages = 8 }; online = None; start = START; named = named.now; drawn = drawn; owners = scripts.items }) }
+        ≡ record { geometry = geometry; online = None; start = start.now; named = named.now; drawn = drawn; owners = scripts.items }) }
 {
     Ok(Scenario {
-        geometry: Geometry::new(2, 4, 2, 4, 4, 8)?,
+        geometry,
         online: None,
-        start: Listed::from_vec(Vec::from_slice(alloc, &START)?),
+        start: Listed::from_vec(Vec::from_slice(alloc, start)?),
         named: Listed::from_vec(Vec::from_slice(alloc, named)?),
         drawn,
         owners: Listed::from_vec(scripts),
@@ -120,7 +149,7 @@ fn write_and_read(alloc: Global, named: &[Turn]) -> Result<Scenario, Fail>
     let mut scripts = Vec::new(alloc);
     scripts.push(CallList::from_vec(first))?;
     scripts.push(CallList::from_vec(second))?;
-    small(alloc, named, None, scripts)
+    scenario(alloc, small()?, &START, named, None, scripts)
 }
 
 #[test]
@@ -167,7 +196,7 @@ fn two_owners(alloc: Global, drawn: Option<Drawn>) -> Result<Scenario, Fail>
     let mut scripts = Vec::new(alloc);
     scripts.push(CallList::from_vec(first))?;
     scripts.push(CallList::from_vec(second))?;
-    small(alloc, &[], drawn, scripts)
+    scenario(alloc, small()?, &START, &[], drawn, scripts)
 }
 
 #[test]
@@ -237,7 +266,7 @@ fn many_pins(alloc: Global) -> Result<Scenario, Fail>
 {
     let mut scripts = Vec::new(alloc);
     scripts.push(pins(alloc, 64)?)?;
-    small(alloc, &[], None, scripts)
+    scenario(alloc, small()?, &START, &[], None, scripts)
 }
 
 #[test]
@@ -257,6 +286,130 @@ fn a_page_has_at_most_63_pins(rt: HostRuntime) -> Result<(), Fail> {
         return Err("pages".into());
     };
     assert_eq!(rt; first.pins, 63);
+    Ok(())
+}
+
+/// A lease for a movable page.
+fn lease(who: u32, frame: u32, page: u32) -> SpaceAction {
+    SpaceAction::Lease {
+        who,
+        frame: FrameNo(frame),
+        page: PageNo(page),
+        kind: Kind::Movable,
+    }
+}
+
+/// A frame that was given back.
+fn give_back(who: u32, frame: u32) -> SpaceAction {
+    SpaceAction::Return {
+        who,
+        frame: FrameNo(frame),
+    }
+}
+
+/// A scenario where owner 1 maps, writes and frees a page, and owner 2 maps and reads it behind that.
+fn map_and_free(alloc: Global) -> Result<Scenario, Fail>
+    ensures { IfOk result (λ s. IsRunnable s) }
+{
+    let first = vec![in alloc;
+        (PageNo(0), ALLOC),
+        (PageNo(0), write(0, 5)),
+        (PageNo(0), Call::Free),
+    ]?;
+    let second = vec![in alloc; (PageNo(0), ALLOC), (PageNo(0), READ_TWO)]?;
+    let mut scripts = Vec::new(alloc);
+    scripts.push(CallList::from_vec(first))?;
+    scripts.push(CallList::from_vec(second))?;
+    scenario(alloc, small()?, &[], &[turns(1, 18)], None, scripts)
+}
+
+// 8 turns for the alloc, 5 for the write and 5 for the free.
+#[test]
+fn an_alloc_is_zeroed_mapped_and_freed(rt: HostRuntime) -> Result<(), Fail> {
+    let s = map_and_free(rt.alloc())?;
+    let report = report(rt.alloc(), &s)?;
+    assert_eq!(rt;
+        report.history.as_slice(),
+        [
+            entry([0, 1, 0, 0], ALLOC, Reply::Done),
+            entry([1, 1, 1, 0], write(0, 5), Reply::Done),
+            entry([2, 1, 2, 0], Call::Free, Reply::Done),
+            entry([3, 2, 0, 0], ALLOC, Reply::Done),
+            entry([4, 2, 1, 0], READ_TWO, two(0, 0)),
+        ]
+        .as_slice()
+    );
+    assert_eq!(rt;
+        report.space_journal.as_slice(),
+        [lease(1, 0, 0), give_back(1, 0), lease(2, 4, 0)].as_slice()
+    );
+    Ok(())
+}
+
+/// A scenario where an owner allocates a page that is mapped, and adds to it.
+fn map_a_mapped_page(alloc: Global) -> Result<Scenario, Fail>
+    ensures { IfOk result (λ s. IsRunnable s) }
+{
+    let calls = vec![in alloc;
+        (PageNo(0), ALLOC),
+        (PageNo(0), ADD_MOST),
+        (PageNo(0), ADD_MOST),
+    ]?;
+    let mut scripts = Vec::new(alloc);
+    scripts.push(CallList::from_vec(calls))?;
+    scenario(alloc, small()?, &[movable(0, 0)], &[], None, scripts)
+}
+
+#[test]
+fn a_mapped_page_is_not_allocated(rt: HostRuntime) -> Result<(), Fail> {
+    let s = map_a_mapped_page(rt.alloc())?;
+    let report = report(rt.alloc(), &s)?;
+    assert_eq!(rt;
+        report.history.as_slice(),
+        [
+            entry([0, 1, 0, 0], ALLOC, Reply::Mapped),
+            entry([1, 1, 1, 0], ADD_MOST, Reply::Old(0)),
+            entry(
+                [2, 1, 2, 0],
+                ADD_MOST,
+                Reply::Old(18_446_744_073_709_551_615)
+            ),
+        ]
+        .as_slice()
+    );
+    assert_eq!(rt;
+        report.space_journal.as_slice(),
+        [lease(1, 4, 0), give_back(1, 4)].as_slice()
+    );
+    Ok(())
+}
+
+/// A scenario where an owner allocates a page, and all frames are those of start pages.
+fn full_machine(alloc: Global) -> Result<Scenario, Fail>
+    ensures { IfOk result (λ s. IsRunnable s) }
+{
+    let mut scripts = Vec::new(alloc);
+    scripts.push(CallList::from_vec(vec![in alloc; (PageNo(4), ALLOC)]?))?;
+    let start = [movable(0, 0), movable(1, 1), movable(2, 2), movable(3, 3)];
+    scenario(
+        alloc,
+        Geometry::new(1, 2, 1, 1, 1, 5)?,
+        &start,
+        &[],
+        None,
+        scripts,
+    )
+}
+
+#[test]
+fn a_full_machine_has_no_frame(rt: HostRuntime) -> Result<(), Fail> {
+    let s = full_machine(rt.alloc())?;
+    let report = report(rt.alloc(), &s)?;
+    assert_eq!(rt;
+        report.history.as_slice(),
+        [entry([0, 1, 0, 4], ALLOC, Reply::NoFrame { at: 0 })].as_slice()
+    );
+    assert_eq!(rt; report.space_journal.len(), 0);
     Ok(())
 }
 

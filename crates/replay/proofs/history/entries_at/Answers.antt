@@ -1,7 +1,7 @@
-use Rattle.std.proofs.Common.{◌≡◌, ◌++◌, List, [], ◌∙◌, sym, ap, drop, length, arith}
+use Rattle.std.proofs.Common.{List, ◌∙◌, sym, ap, length, arith}
 use Rattle.std.specs.List.{slice_get}
 use Rattle.evac_model.specs.declared.entry.Entry.{Entry}
-use Rattle.replay.proofs.Places.{kept, kept_length, kept_at, all_kept}
+use Rattle.replay.proofs.Places.{kept_length, kept_at, all_kept}
 use Rattle.replay.proofs.history.entries_at.Goals as goal
 
 pub returns-clause-count : goal.returns-clause-count

@@ -1,6 +1,5 @@
-use Rattle.std.proofs.Common.{◌≡◌, ◌<◌, ◌∙◌, ℕ, List, length, get_or, sym, ap, arith, Option, Some, None}
+use Rattle.std.proofs.Common.{◌≡◌, ◌∙◌, List, length, ap, Option}
 use Rattle.evac_model.specs.declared.entry.Entry.{Entry}
-use Rattle.core_state.specs.Pages.{or_else, entry_with}
 use Rattle.replay.proofs.Places.{written_back, all_there}
 use Rattle.replay.proofs.history.history.Goals as goal
 

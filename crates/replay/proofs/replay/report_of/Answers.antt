@@ -3,7 +3,7 @@ use Rattle.core_state.specs.declared.opening.Opening.{Opening}
 use Rattle.core_state.specs.declared.snapshot.Snapshot.{Snapshot}
 use Rattle.core_state.specs.declared.view.View.{View}
 use Rattle.core_state.specs.Pages.{entry_with}
-use Rattle.replay.specs.Machine.{Run}
+use Rattle.replay.specs.Machine.{Setting, Run}
 use Rattle.replay.specs.Runs.{opening, AllEnded}
 use Rattle.replay.specs.RunningInside.{machine_of}
 use Rattle.replay.specs.Shown.{MapsInside}
@@ -23,7 +23,7 @@ pub final_pages-requires : goal.final_pages-requires
 final_pages-requires c =
     let running = c.run.invariant in
     let words = c.as_slice-words.ensures ∙ ap (λ (s : Snapshot). s.words) c.snapshot-snapshot.ensures in
-    let opened = c.opening-opening.ensures.opening ∙ running.opened in
+    let opened = c.opening-opening.ensures.opening ∙ ap (λ (x : Setting). x.opening) running.set in
     record {
       inside =
           subst (λ (o : Opening). MapsInside o c.as_slice-words.result.now) (sym opened)

@@ -1,4 +1,4 @@
-use Rattle.std.proofs.Common.{ℕ, ◌+◌, get_or, sym, ap, ◌∙◌, arith}
+use Rattle.std.proofs.Common.{ℕ, get_or, sym, ap, ◌∙◌, arith}
 use Rattle.evac_model.specs.declared.scenario.Actor.TheVariants.{Owner, Host}
 use Rattle.replay.specs.Schedule.{actors}
 use Rattle.replay.proofs.Schedules.{owner_at, host_at, scanner_at}

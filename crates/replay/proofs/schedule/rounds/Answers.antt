@@ -11,5 +11,5 @@ returns-then-have_all_ended c =
 pub loop-round-preserved : goal.loop-round-preserved
 loop-round-preserved c =
     let all = actors c.args.owners in
-    after_some c.loop-round.run c.round.new.run all (rounds all (c.args.count - (c.loop-round._round + 1))) (rounds all (c.args.count - c.loop-round._round)) c.round.ensures (rounds_first all c.args.count c.loop-round._round (omega arith))
+    after_some c.loop-round.run c.round.new.run all (rounds all (c.args.count - (c.loop-round._round + 1))) (rounds all (c.args.count - c.loop-round._round)) c.in_ok-round.ensures (rounds_first all c.args.count c.loop-round._round (omega arith))
     ∙ c.loop-round.invariant

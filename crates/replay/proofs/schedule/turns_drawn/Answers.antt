@@ -15,6 +15,6 @@ loop-turn-preserved c =
     let actor : c.actor_at.result ≡ actor_for all (pcg32 c.loop-turn.generator).0 = c.actor_at.ensures ∙ actor_is c.args.owners c.next_word-word.result ∙ ap (λ (w : ℕ). actor_for all w) word in
     ap (λ (g : Lcg). run_after c.turn.new.self (turns_from all g (c.args.count - (c.loop-turn._turn + 1)))) generator
     ∙ after_first c.loop-turn.run c.turn.new.self (actor_for all (pcg32 c.loop-turn.generator).0) (turns_from all (pcg32 c.loop-turn.generator).1 (c.args.count - (c.loop-turn._turn + 1))) (turns_from all c.loop-turn.generator (c.args.count - c.loop-turn._turn))
-    (c.turn.ensures ∙ ap (λ (x : Actor). run_after c.loop-turn.run (x ∷ [])) actor)
+    (c.in_ok-turn.ensures.turned ∙ ap (λ (x : Actor). run_after c.loop-turn.run (x ∷ [])) actor)
     (drawn_first all c.loop-turn.generator c.args.count c.loop-turn._turn (omega arith))
     ∙ c.loop-turn.invariant

@@ -5,7 +5,7 @@ use Rattle.evac_model.specs.declared.scenario.Drawn.{Drawn}
 use Rattle.evac_model.specs.declared.scenario.Scenario.{Scenario}
 use Rattle.evac_model.specs.declared.scenario.Turn.{Turn}
 use Rattle.replay.specs.ReplayInside.{ReplayState, replay_of}
-use Rattle.replay.specs.Runs.{machine_at_start, opening, AllEnded}
+use Rattle.replay.specs.Runs.{machine_at_start, setting, AllEnded}
 use Rattle.replay.specs.Machine.{after_turns}
 use Rattle.replay.specs.Schedule.{draw_count, round_bound, turn_bound, schedule}
 use Rattle.replay.proofs.Done.{owner_number, few_draws, few_turns}
@@ -67,5 +67,5 @@ pub returns-clause-ended : goal.returns-clause-ended
 returns-clause-ended c s runnable e =
     let calls = ap (λ (r : ReplayState). r.calls) e in (
       ap (λ (k : ℕ). length (schedule s (round_bound s.geometry.cells k))) calls ∙ bounds_count_turns s ∙ sym (sum_is c s e),
-      subst (λ (k : ℕ). AllEnded (after_turns (opening s) (machine_at_start s) (schedule s (round_bound s.geometry.cells k))).owners) (sym calls) (runs_end_if_kept starts_are_kept turns_are_kept s runnable),
+      subst (λ (k : ℕ). AllEnded (after_turns (setting s) (machine_at_start s) (schedule s (round_bound s.geometry.cells k))).owners) (sym calls) (runs_end_if_kept starts_are_kept turns_are_kept s runnable),
     )
