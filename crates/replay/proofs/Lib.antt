@@ -1,6 +1,7 @@
 pub mod Members
 pub mod InOrder
 pub mod MovesInOrder
+pub mod NextActions
 pub mod Storable
 pub mod OwnersStay
 pub mod SpaceNow
@@ -31,6 +32,7 @@ pub mod Rounds
 pub mod Ends
 pub mod Schedules
 pub mod Places
+pub mod Asking
 pub mod Playing
 pub mod EndedOwners
 pub mod Left
