@@ -1,9 +1,7 @@
 -- What the frame space gives an owner that asks it.
-use Rattle.std.proofs.Common.{◌≡◌, ℕ, List, length, ap, sym, ◌∙◌, Option, None, Some}
-use Rattle.evac_model.specs.declared.names.FrameNo.{FrameNo}
+use Rattle.std.proofs.Common.{◌≡◌, ℕ, length, ap, sym, ◌∙◌, Option}
 use Rattle.evac_model.specs.declared.names.Kind.{Kind}
 use Rattle.evac_model.specs.declared.names.PageNo.{PageNo}
-use Rattle.evac_model.specs.declared.space.SpaceAction.{SpaceAction}
 use Rattle.evac_model.specs.Geometry.{IsWithinLimits}
 use Rattle.evac_model.specs.SpaceJournal.{Leased, lease_of}
 use Rattle.core_state.specs.declared.snapshot.Snapshot.{Snapshot}

@@ -1,5 +1,5 @@
 -- Entries at the places of their tickets.
-use Rattle.std.proofs.Common.{◌≡◌, ◌≢◌, ℕ, zero, suc, ◌+◌, ◌<◌, ◌≤◌, drop, take, replicate, subst, List, [], ◌∷◌, ◌++◌, length, get_or, set, cond, eqb, Option, Some, None, IsSome, refl, ap, sym, ◌∙◌, arith}
+use Rattle.std.proofs.Common.{◌≡◌, ℕ, zero, suc, ◌<◌, ◌≤◌, drop, take, replicate, subst, List, [], ◌∷◌, ◌++◌, length, get_or, Option, Some, None, IsSome, refl, ap, sym, ◌∙◌, arith}
 use Rattle.std.specs.List.{slice_get}
 use Rattle.std.proofs.lemmas.List.{append-nil, take-append-le, length-replicate, get_or-replicate}
 use Rattle.std.proofs.Math.Seq.{take-length}

@@ -1,5 +1,5 @@
 -- The scenarios of the tests can be run.
-use Rattle.std.proofs.Common.{◌≡◌, ℕ, zero, suc, ◌+◌, ◌*◌, ◌^◌, ◌<◌, ◌≤◌, List, [], ◌∷◌, length, map, replicate, refl, lit<, lit≤, sym, ap, subst, ◌∙◌, arith, Bool, true, Option, None, Result}
+use Rattle.std.proofs.Common.{◌≡◌, ℕ, zero, suc, ◌^◌, ◌<◌, ◌≤◌, List, [], ◌∷◌, length, replicate, refl, lit<, lit≤, sym, subst, ◌∙◌, arith, true, Option, None, Result}
 use Rattle.std.specs.Prelude.{IfSome, IfOk}
 use Rattle.std.specs.List.{AllByRecursion, IsDistinct}
 use Rattle.std.proofs.lemmas.Result.{IfOk-weaker}

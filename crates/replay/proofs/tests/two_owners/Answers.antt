@@ -1,6 +1,6 @@
 use Rattle.std.proofs.Common.{◌≡◌, ◌∙◌, List, [], ◌∷◌, ◌++◌, refl, ap}
 use Rattle.evac_model.specs.declared.call.Call.{Call}
-use Rattle.evac_model.specs.declared.call.Call.TheVariants.{Read, Write}
+use Rattle.evac_model.specs.declared.call.Call.TheVariants.{Read}
 use Rattle.evac_model.specs.declared.names.PageNo.{PageNo}
 use Rattle.replay.proofs.SmallRuns.{a_page, small_sizes, two_pages, first_owner, second_owner, two_owners_run, made_runs}
 use Rattle.replay.proofs.tests.two_owners.Goals as goal

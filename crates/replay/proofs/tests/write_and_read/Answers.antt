@@ -1,6 +1,5 @@
 use Rattle.std.proofs.Common.{◌≡◌, ◌∙◌, List, [], ◌∷◌, ◌++◌, refl, ap, None}
 use Rattle.evac_model.specs.declared.call.Call.{Call}
-use Rattle.evac_model.specs.declared.call.Call.TheVariants.{Read, Write}
 use Rattle.evac_model.specs.declared.names.PageNo.{PageNo}
 use Rattle.replay.proofs.SmallRuns.{a_page, small_sizes, two_pages, one_write, one_read, a_write_and_a_read_run, made_runs}
 use Rattle.replay.proofs.tests.write_and_read.Goals as goal

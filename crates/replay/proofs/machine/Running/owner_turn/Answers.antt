@@ -1,7 +1,7 @@
-use Rattle.std.proofs.Common.{◌≡◌, ◌+◌, ◌-◌, ◌<◌, ◌∙◌, ℕ, [], ◌∷◌, length, suc, sym, ap, subst, arith, Some}
+use Rattle.std.proofs.Common.{◌≡◌, ◌+◌, ◌-◌, ◌<◌, ◌∙◌, ℕ, [], ◌∷◌, length, suc, sym, ap, subst, arith}
 use Rattle.std.proofs.lemmas.Result.{on_ok_weaker}
 use Rattle.evac_model.specs.declared.scenario.Actor.TheVariants.{Owner}
-use Rattle.replay.specs.Machine.{Setting, Machine, Run, Scene, free_seat, with_scene, run_after}
+use Rattle.replay.specs.Machine.{Setting, Machine, Run, Scene, with_scene, run_after}
 use Rattle.replay.specs.RunningInside.{machine_of}
 use Rattle.replay.specs.Seats.{setting_of, scene, MayAct}
 use Rattle.replay.proofs.Playing.{read_at, may_at, Stays, stays, stays_still, either_way, turn_leaves}

@@ -1,6 +1,5 @@
-use Rattle.std.proofs.Common.{◌≡◌, ◌∙◌, ap, sym}
+use Rattle.std.proofs.Common.{◌∙◌, ap, sym}
 use Rattle.std.proofs.lemmas.Result.{IfOk-weaker}
-use Rattle.replay.specs.Machine.{Run}
 use Rattle.replay.specs.ReplayInside.{ReplayState, state_of}
 use Rattle.replay.specs.Schedule.{round_bound}
 use Rattle.replay.proofs.Done.{finished}
