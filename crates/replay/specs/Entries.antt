@@ -1,5 +1,5 @@
 -- Entries at the places of their tickets.
-use Rattle.std.specs.Prelude.{ℕ, List, slice_index_or, slice_set, Option, Some, None}
+use Rattle.std.specs.Prelude.{List, slice_index_or, slice_set, Option, Some, None}
 use Rattle.evac_model.specs.declared.entry.Entry.{Entry}
 use Rattle.core_state.specs.Pages.{or_else}
 

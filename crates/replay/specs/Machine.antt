@@ -19,7 +19,6 @@ use Rattle.core_state.specs.Views.{view_of}
 use Rattle.core_state.specs.Stepped.{word_found, snapshot_after, snapshot_after_move}
 use Rattle.core_actors.specs.declared.action.Action.{Action}
 use Rattle.core_actors.specs.declared.action.Action.TheVariants as actions
-use Rattle.core_actors.specs.declared.action.Heard.{Heard}
 use Rattle.core_actors.specs.declared.action.Heard.TheVariants as heard
 use Rattle.core_actors.specs.declared.action.SpaceCall.{SpaceCall}
 use Rattle.core_actors.specs.declared.action.SpaceCall.TheVariants.{Lease, Return}

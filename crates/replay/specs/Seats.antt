@@ -9,8 +9,6 @@ use Rattle.core_state.specs.declared.opening.Opening.{Opening}
 use Rattle.core_state.specs.declared.seen.Seen.{Seen}
 use Rattle.core_state.specs.declared.seen.Seen.TheVariants as seen
 use Rattle.core_state.specs.declared.snapshot.Snapshot.{Snapshot}
-use Rattle.core_state.specs.declared.step.MoveStep.{MoveStep}
-use Rattle.core_state.specs.declared.step.Step.{Step}
 use Rattle.core_state.specs.CoreState.{notices_of}
 use Rattle.core_state.specs.HandOvers.{MayHandOver}
 use Rattle.core_state.specs.MoveSteps.{AllowedMove}
