@@ -13,9 +13,9 @@ abbrev pub IsAccepted : List ℕ → Scenario → Type 0
 IsAccepted bytes s = (length bytes ≤ input_limit) × IsScenarioText bytes s
 
 -- the bytes are refused, at this line for this cause
-abbrev pub IsRefusedAt : List ℕ → ScenarioFault → Type 0
-IsRefusedAt bytes fault = (length bytes ≤ input_limit) × IsRefused bytes fault
+abbrev pub IsRefusedWith : List ℕ → ScenarioFault → Type 0
+IsRefusedWith bytes fault = (length bytes ≤ input_limit) × IsRefused bytes fault
 
 -- the bytes are too many, or no scenario
 abbrev pub IsRefusedInput : List ℕ → Type 0
-IsRefusedInput bytes = (input_limit < length bytes) ⊎ ((fault : ScenarioFault) × IsRefusedAt bytes fault)
+IsRefusedInput bytes = (input_limit < length bytes) ⊎ ((fault : ScenarioFault) × IsRefusedWith bytes fault)

@@ -8,7 +8,7 @@ use Rattle.evac_model.specs.declared.scenario.LineCause.TheVariants as cause
 use Rattle.evac_model.specs.declared.scenario.ScenarioFault.{ScenarioFault}
 use Rattle.evac.specs.declared.stop.Stop.{Stop}
 use Rattle.evac.specs.declared.stop.Stop.TheVariants as stop
-use Rattle.evac.specs.Input.{input_limit, IsRefusedAt}
+use Rattle.evac.specs.Input.{input_limit, IsRefusedWith}
 
 abbrev pub cause_word : LineCause → List ℕ
 cause_word cause.Empty = codes "empty"
@@ -54,7 +54,7 @@ stop_line stop.OutOfMemory = memory_line
 abbrev pub Stops : Option (List ℕ) → ℕ → ℕ → Stop → Type 0
 Stops left before after stop.ReadFault = Rose before after
 Stops left before after stop.TooLong = IsLongerThan left input_limit
-Stops left before after (stop.Refused fault) = IfSome left (λ bytes. IsRefusedAt bytes fault)
+Stops left before after (stop.Refused fault) = IfSome left (λ bytes. IsRefusedWith bytes fault)
 Stops left before after stop.OutOfMemory = ⊤
 
 -- the sink took the line, or some of it where its count of faults rose
@@ -74,4 +74,4 @@ EndsBy status old new before after reason = (status ≡ status_of reason) × Tak
 abbrev pub TellsRefusal : Option (List ℕ) → Option (List ℕ) → Option (List ℕ) → ℕ → ℕ → Type 0
 TellsRefusal left old new before after =
     (IsLongerThan left input_limit × TakesLine old new before after size_line)
-    ⊎ ((fault : ScenarioFault) × IfSome left (λ bytes. IsRefusedAt bytes fault) × TakesLine old new before after (fault_line fault))
+    ⊎ ((fault : ScenarioFault) × IfSome left (λ bytes. IsRefusedWith bytes fault) × TakesLine old new before after (fault_line fault))
