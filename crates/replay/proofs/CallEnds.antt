@@ -75,7 +75,7 @@ pub waits : (who : ℕ) (left : List (PageNo × Call)) → made_under_way who le
 waits who ((page, Alloc kind) ∷ cs) = refl
 waits who left = refl
 
-pub not_refused : (s : Scenario) (journal : List SpaceAction) (who : ℕ) (es : List Entry) (left : List (PageNo × Call)) → IsRefusedNow s journal who es left NotAsked
+not_refused : (s : Scenario) (journal : List SpaceAction) (who : ℕ) (es : List Entry) (left : List (PageNo × Call)) → IsRefusedNow s journal who es left NotAsked
 not_refused s journal who es ((page, Alloc kind) ∷ cs) = tt
 not_refused s journal who es left = tt
 

@@ -30,7 +30,6 @@ use Rattle.replay.specs.Machine.{space_at}
 use Rattle.replay.specs.Runs.{setting}
 use Rattle.replay.specs.CallsMade.{IsRefusedNow, AreOwnersCallsMade}
 use Rattle.replay.proofs.CallsKept.{calls_same, calls_own}
-use Rattle.replay.proofs.CallEnds.{not_refused}
 
 -- ---- which call leases a frame
 
@@ -53,16 +52,6 @@ module _ (cells : ℕ) (lease : LeaseSeen) (found : ℕ) (loads : List ℕ) (mad
       by_call (Add cell value) at is = absurd at.1
       by_call Pin at is = absurd at.1
       by_call Unpin at is = absurd at.1
-
--- nothing was leased before the first action
-not_asked : (call : Call) (lease : LeaseSeen) (made : ℕ) → HeardOfLease call made lease → made ≡ 0 → lease ≡ NotAsked
-not_asked (Alloc kind) lease made heard z = heard.1 z
-not_asked Free lease made heard z = heard
-not_asked (Read first count) lease made heard z = heard
-not_asked (Write first values) lease made heard z = heard
-not_asked (Add cell value) lease made heard z = heard
-not_asked Pin lease made heard z = heard
-not_asked Unpin lease made heard z = heard
 
 -- ---- the lease
 
@@ -97,8 +86,9 @@ module _ (sc : Scenario) (journal : List SpaceAction) (who : ℕ) (es : List Ent
       for_alloc : (P : PageNo × Call → LeaseSeen → Type 0) → P (page, Alloc kind) NotAsked → P c lease
       for_alloc P p =
           let r = asks_for cells lease found loads made page kind c way.0 is in
+          let heard = subst (λ (d : PageNo × Call). HeardOfLease d.1 made lease) r.1 way.2 in
           subst (λ (d : PageNo × Call). P d lease) (sym r.1)
-          (subst (λ (l : LeaseSeen). P (page, Alloc kind) l) (sym (not_asked c.1 lease made way.2 r.0)) p)
+          (subst (λ (l : LeaseSeen). P (page, Alloc kind) l) (sym (heard.1 r.0)) p)
 
       pub calls_leased : (frame : FrameNo) → AreOwnersCallsMade sc journal who (asking c lease made) es
           → AreOwnersCallsMade sc (journal ++ space.Lease who frame page kind ∷ []) who (asking c (Got frame) (made + 1)) es
@@ -120,10 +110,10 @@ module _ (sc : Scenario) (journal : List SpaceAction) (who : ℕ) (es : List Ent
 
   -- with a frame to give back, no lease was made for the next call
   waits_unasked : (left : List (PageNo × Call)) (frame : FrameNo) (after : List SpaceAction) → IsUnderWay (owner_with left (Some frame)) → IsRefusedNow sc after who es left lease
-  waits_unasked [] frame after way = tt
-  waits_unasked (c ∷ cs) frame after way =
+  waits_unasked ((page, Alloc kind) ∷ cs) frame after way =
       let z : made ≡ 0 = way.back_first (λ e. cc) in
-      subst (λ (l : LeaseSeen). IsRefusedNow sc after who es (c ∷ cs) l) (sym (not_asked c.1 lease made way.call.2 z)) (not_refused sc after who es (c ∷ cs))
+      subst (λ (l : LeaseSeen). IsRefusedNow sc after who es ((page, Alloc kind) ∷ cs) l) (sym ((way.call.2).1 z)) tt
+  waits_unasked left frame after way = tt
 
   pub calls_returned : (left : List (PageNo × Call)) (frame : FrameNo) → IsUnderWay (owner_with left (Some frame)) → AreOwnersCallsMade sc journal who (owner_with left (Some frame)) es
       → AreOwnersCallsMade sc (journal ++ space.Return who frame ∷ []) who (owner_with left None) es

@@ -35,27 +35,22 @@ use Rattle.core_state.proofs.Cells.{at_entry}
 use Rattle.core_state.proofs.Frames.{maps_to-is}
 use Rattle.core_state.proofs.Lists.{sum_by_member, sum_by_none, member_le_sum_by, within}
 use Rattle.core_actors.specs.Fits.{hand_in, hand_from, frame_in_hand, IsHandFor, HasInHand}
-use Rattle.core_actors.specs.Owners.{OwnerState, owner_at_start, are_none, is_nothing, owner_ended}
+use Rattle.core_actors.specs.Owners.{OwnerState, owner_at_start, owner_ended}
 use Rattle.space.specs.SpaceInside.{IsSpace}
 use Rattle.space.proofs.Members.{is_in-range_with_len}
 use Rattle.replay.specs.FramesOut.{HasFrame, space_now}
 use Rattle.replay.specs.Keeping.{IsKept}
 use Rattle.replay.specs.Machine.{Machine, free_seat, owner_of}
 use Rattle.replay.specs.Runs.{opening, AllEnded, first_blocks}
+use Rattle.replay.proofs.EndedOwners.{left_at_end, back_at_end}
 use Rattle.replay.proofs.SpaceNow.{space_is}
 
 -- ---- an owner that has ended
 
-nothing_left : (left : List (PageNo × Call)) (back : Option FrameNo) → (are_none left && is_nothing back) ≡ true → (left ≡ []) × (back ≡ None)
-nothing_left [] None ended = (refl, refl)
-nothing_left [] (Some f) ended = absurd (false≢true ended)
-nothing_left (c ∷ cs) back ended = absurd (false≢true ended)
-
 -- it has no frame in hand
 ended_hand : (a : OwnerState) (v : View) (frame : ℕ) → owner_ended a ≡ true → HasInHand v (frame_in_hand a) (IsHandFor a.left a) → hand_frame v frame ≡ None
 ended_hand a v frame ended has =
-    let none = nothing_left a.left a.back ended in
-    let empty : frame_in_hand a ≡ None = ap (λ (b : Option FrameNo). hand_from b a) none.1 ∙ ap (λ (l : List (PageNo × Call)). hand_in l a) none.0 in
+    let empty : frame_in_hand a ≡ None = ap (λ (b : Option FrameNo). hand_from b a) (back_at_end a ended) ∙ ap (λ (l : List (PageNo × Call)). hand_in l a) (left_at_end a ended) in
     subst (λ (f : Option FrameNo). HasInHand v f (IsHandFor a.left a)) empty has frame
 
 -- ---- a frame that is out

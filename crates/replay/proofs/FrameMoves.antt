@@ -1,6 +1,6 @@
 -- A step on the mapping takes a frame from the owner's hand to the page that it is out for, or back.
-use Rattle.std.proofs.Common.{◌≡◌, ◌≢◌, ℕ, suc, ◌<◌, false, List, [], ◌∷◌, get_or, get_or-set_same, get_or-set_other, set, slice_get, sym, refl, ap, ◌∙◌, subst, arith, Option, Some, None, is_some, IsSome, IsSomeAnd}
-use Rattle.std.proofs.lemmas.Option.{get_or_from_slice_get, none-some}
+use Rattle.std.proofs.Common.{◌≡◌, ℕ, suc, ◌<◌, false, List, [], ◌∷◌, get_or, get_or-set_same, get_or-set_other, set, slice_get, sym, refl, ap, ◌∙◌, subst, arith, Option, Some, None, is_some, IsSome, IsSomeAnd}
+use Rattle.std.proofs.lemmas.Option.{get_or_from_slice_get}
 use mathlib.Core.Logic.{dite}
 use native.Mathlib.Decide.{ℕ_discrete}
 use Rattle.evac_model.specs.declared.names.FrameNo.{FrameNo}
@@ -49,11 +49,13 @@ use Rattle.replay.proofs.FrameSteps.{after_is}
 
 -- ---- which step it is
 
--- A map is that of an alloc, whose page is held, and whose frame is out for it; an unmap is that of a free.
+-- A map is that of an alloc, whose page is held, and whose frame is out for it; an unmap is that of a free, whose page
+-- is held.
 data MoveKind (v : View) (a : OwnerState) (step : MoveStep) : Type 0 where
   maps_it : (page : PageNo) (kind : Kind) (frame : FrameNo) → step ≡ Map frame kind → ((h : Held) → v.held ≡ Some h → h.page ≡ page)
       → ((st : SpaceState) (f : ℕ) → IsOutForCall st a.left a.back f → out_for st f ≡ Some (record { page = page.0; kind = kind })) → MoveKind v a step
-  unmaps_it : step ≡ Unmap → ((st : SpaceState) (f : ℕ) → out_for st f ≢ None → IsOutForCall st a.left a.back f) → MoveKind v a step
+  unmaps_it : (page : PageNo) → step ≡ Unmap → ((h : Held) → v.held ≡ Some h → h.page ≡ page)
+      → ((st : SpaceState) (f : ℕ) (kind : Kind) → out_for st f ≡ Some (record { page = page.0; kind = kind }) → IsOutForCall st a.left a.back f) → MoveKind v a step
 
 module _ (s : Sizes) (o : Opening) (v : View) (script : List (PageNo × Call)) (owner cells : ℕ) (lease : LeaseSeen) (found : ℕ) (loads : List ℕ) (made : ℕ) where
   abbrev state : List (PageNo × Call) → Option FrameNo → OwnerState
@@ -74,7 +76,8 @@ module _ (s : Sizes) (o : Opening) (v : View) (script : List (PageNo × Call)) (
   kind_from ((p, Free) ∷ cs) None step fits going is =
       let way = fits.under_way.call in
       let r = free_moves cells p lease found loads made step way.0 is in
-      unmaps_it r.move_is (λ st f out. out)
+      let at = r.at in
+      unmaps_it p r.move_is (page_held (p, Free) cs fits (omega arith)) (λ st f kind out. (kind, out))
   kind_from ((p, Read first count) ∷ cs) None step fits going is = absurd (plain_moves cells p lease found loads made step (Read first count) tt is)
   kind_from ((p, Write first values) ∷ cs) None step fits going is = absurd (plain_moves cells p lease found loads made step (Write first values) tt is)
   kind_from ((p, Add cell value) ∷ cs) None step fits going is = absurd (plain_moves cells p lease found loads made step (Add cell value) tt is)
@@ -144,7 +147,8 @@ module _ (s : Scenario) (m : Machine) (r : IsRunnable s) (p : IsKept s m) (i : �
 
   -- ---- unmap
 
-  module _ (to_out : (f : ℕ) → out_for st f ≢ None → IsOutForCall st a.left a.back f) (may : AllowedMove OneOwner (opening s) v Unmap) where
+  module _ (page : PageNo) (held_is : (h : Held) → v.held ≡ Some h → h.page ≡ page)
+      (to_out : (f : ℕ) (kind : Kind) → out_for st f ≡ Some (record { page = page.0; kind = kind }) → IsOutForCall st a.left a.back f) (may : AllowedMove OneOwner (opening s) v Unmap) where
     words_unmap : WordsOut Unmap v.held
     words_unmap =
         let q = for_some v.held MayUnmap may.1 in
@@ -161,7 +165,7 @@ module _ (s : Scenario) (m : Machine) (r : IsRunnable s) (p : IsKept s m) (i : �
         let out = here q.2.mapped in
         subst (HandOut Unmap) (sym q.1)
         (λ f some. dite (ℕ_discrete f (frame_of h.word))
-        (λ e. to_out f (λ none. none-some _ (sym none ∙ (ap (λ (g : ℕ). out_for st g) e ∙ out))))
+        (λ e. to_out f (kind_in h.word) (ap (λ (g : ℕ). out_for st g) e ∙ (out ∙ ap (λ (g : PageNo). Some (record { page = g.0; kind = kind_in h.word })) (held_is h q.1))))
         (λ ne. was_out f (subst (λ (x : Option HandFrame). IsSome x) (get_or-set_other v.hand (frame_of h.word) f (Some (let_out OneOwner v.cells h)) None ne) some)))
 
   -- ---- either
@@ -169,14 +173,14 @@ module _ (s : Scenario) (m : Machine) (r : IsRunnable s) (p : IsKept s m) (i : �
   words_move : (step : MoveStep) → MoveKind v a step → AllowedMove OneOwner (opening s) v step → WordsOut step v.held
   words_move step (maps_it page kind frame e held_is out_as) may =
       subst (λ (t : MoveStep). WordsOut t v.held) (sym e) (words_map page kind frame held_is (out_as st) (subst (λ (t : MoveStep). AllowedMove OneOwner (opening s) v t) e may))
-  words_move step (unmaps_it e to_out) may =
-      subst (λ (t : MoveStep). WordsOut t v.held) (sym e) (words_unmap (to_out st) (subst (λ (t : MoveStep). AllowedMove OneOwner (opening s) v t) e may))
+  words_move step (unmaps_it page e held_is to_out) may =
+      subst (λ (t : MoveStep). WordsOut t v.held) (sym e) (words_unmap page held_is (to_out st) (subst (λ (t : MoveStep). AllowedMove OneOwner (opening s) v t) e may))
 
   hand_move : (step : MoveStep) → MoveKind v a step → AllowedMove OneOwner (opening s) v step → HandOut step v.held
   hand_move step (maps_it page kind frame e held_is out_as) may =
       subst (λ (t : MoveStep). HandOut t v.held) (sym e) (hand_map page kind frame held_is (out_as st) (subst (λ (t : MoveStep). AllowedMove OneOwner (opening s) v t) e may))
-  hand_move step (unmaps_it e to_out) may =
-      subst (λ (t : MoveStep). HandOut t v.held) (sym e) (hand_unmap (to_out st) (subst (λ (t : MoveStep). AllowedMove OneOwner (opening s) v t) e may))
+  hand_move step (unmaps_it page e held_is to_out) may =
+      subst (λ (t : MoveStep). HandOut t v.held) (sym e) (hand_unmap page held_is (to_out st) (subst (λ (t : MoveStep). AllowedMove OneOwner (opening s) v t) e may))
 
   -- `n` is the place of the owner
   pub move_placed : (step : MoveStep) → next_action a ≡ actions.Move step → (n : ℕ) → n ≡ i → AreFramesPlaced s (record {

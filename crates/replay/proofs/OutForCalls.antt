@@ -18,7 +18,8 @@ module _ (st : SpaceState) (frame : ℕ) where
   is_out [] back out = out
   is_out ((page, Alloc kind) ∷ cs) None out = λ none. none-some _ (sym none ∙ out)
   is_out ((page, Alloc kind) ∷ cs) (Some f) out = out
-  is_out ((page, Free) ∷ cs) back out = out
+  is_out ((page, Free) ∷ cs) None out = λ none. none-some _ (sym none ∙ out.1)
+  is_out ((page, Free) ∷ cs) (Some f) out = out
   is_out ((page, Read first count) ∷ cs) back out = out
   is_out ((page, Write first values) ∷ cs) back out = out
   is_out ((page, Add cell value) ∷ cs) back out = out
@@ -41,7 +42,8 @@ module _ (st : SpaceState) (frame : ℕ) where
   out_still after [] back same out = λ none. out (sym same ∙ none)
   out_still after ((page, Alloc kind) ∷ cs) None same out = same ∙ out
   out_still after ((page, Alloc kind) ∷ cs) (Some f) same out = λ none. out (sym same ∙ none)
-  out_still after ((page, Free) ∷ cs) back same out = λ none. out (sym same ∙ none)
+  out_still after ((page, Free) ∷ cs) None same out = (out.0, same ∙ out.1)
+  out_still after ((page, Free) ∷ cs) (Some f) same out = λ none. out (sym same ∙ none)
   out_still after ((page, Read first count) ∷ cs) back same out = λ none. out (sym same ∙ none)
   out_still after ((page, Write first values) ∷ cs) back same out = λ none. out (sym same ∙ none)
   out_still after ((page, Add cell value) ∷ cs) back same out = λ none. out (sym same ∙ none)

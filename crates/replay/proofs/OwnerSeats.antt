@@ -1,6 +1,6 @@
 -- An owner's seat and that of the free frames in a kept machine: what they have, and which frames may go from the
 -- one to the other.
-use Rattle.std.proofs.Common.{◌≡◌, ◌≢◌, ℕ, suc, ◌<◌, false, List, [], ◌∷◌, length, inr, refl, sym, ap, ◌∙◌, subst, arith, Option, Some, None, IsSome}
+use Rattle.std.proofs.Common.{◌≡◌, ◌≢◌, ℕ, suc, ◌<◌, false, length, inr, refl, sym, ap, ◌∙◌, subst, arith, Option, Some, None, IsSome}
 use Rattle.std.specs.Prelude.{IsSomeAnd}
 use Rattle.std.specs.List.{slice_get}
 use Rattle.std.proofs.lemmas.Bool.{false≢true}
@@ -8,16 +8,13 @@ use Rattle.std.proofs.lemmas.List.{get_or_past}
 use Rattle.std.proofs.lemmas.Option.{none-some}
 use mathlib.Core.Logic.{dite}
 use native.Mathlib.Decide.{ℕ_discrete, dec_lt}
-use Rattle.evac_model.specs.declared.call.Call.{Call}
-use Rattle.evac_model.specs.declared.call.Call.TheVariants.{Alloc, Free, Read, Write, Add, Pin, Unpin}
 use Rattle.evac_model.specs.declared.names.FrameNo.{FrameNo}
 use Rattle.evac_model.specs.declared.names.Kind.{Kind}
-use Rattle.evac_model.specs.declared.names.PageNo.{PageNo}
 use Rattle.evac_model.specs.declared.scenario.Scenario.{Scenario}
 use Rattle.evac_model.specs.Scenarios.{IsRunnable}
 use Rattle.evac_model.specs.ScenarioGrammar.{online_of}
 use Rattle.evac_model.specs.Scripts.{script_of}
-use Rattle.evac_model.specs.SpaceJournal.{SpaceState, Leased, lease_of, out_for}
+use Rattle.evac_model.specs.SpaceJournal.{Leased, lease_of, out_for}
 use Rattle.core_state.specs.declared.hand.HandFrame.{HandFrame}
 use Rattle.core_state.specs.declared.opening.Opening.{Opening}
 use Rattle.core_state.specs.declared.view.View.{View}
@@ -31,10 +28,11 @@ use Rattle.core_actors.specs.Fits.{frame_in_hand, IsHandFor, HasInHand, Fits}
 use Rattle.core_actors.specs.Owners.{OwnerState, owner_ended, next_action}
 use Rattle.core_actors.proofs.AtRest.{return_allowed}
 use Rattle.core_actors.proofs.HandSteps.{hand_sized}
-use Rattle.replay.specs.FramesOut.{IsOutForCall, space_now}
+use Rattle.replay.specs.FramesOut.{space_now}
 use Rattle.replay.specs.Keeping.{HaveNumbers, IsIdle, IsKept}
 use Rattle.replay.specs.Machine.{Machine, free_seat}
 use Rattle.replay.specs.Runs.{opening}
+use Rattle.replay.proofs.OutForCalls.{is_out}
 use Rattle.replay.proofs.SpaceNow.{lease_is_free, lease_is_plugged}
 
 -- ---- hands
@@ -63,18 +61,6 @@ one_handed o giver receiver frame x gives takes is = record {
   in_range = let lt = has_place o giver frame x gives.seated is in omega arith;
   in_hand = λ f low high. subst (λ (y : Option HandFrame). IsSome y) (sym (ap (λ (k : ℕ). hand_frame giver k) (let e : f ≡ frame = omega arith in e) ∙ is)) refl;
 }
-
--- a frame in an owner's hand is out
-out_in_hand : (st : SpaceState) (calls : List (PageNo × Call)) (back : Option FrameNo) (frame : ℕ) → IsOutForCall st calls back frame → out_for st frame ≢ None
-out_in_hand st ((page, Alloc kind) ∷ cs) None frame is = λ none. none-some _ (sym none ∙ is)
-out_in_hand st ((page, Alloc kind) ∷ cs) (Some f) frame is = is
-out_in_hand st ((page, Free) ∷ cs) back frame is = is
-out_in_hand st ((page, Read first count) ∷ cs) back frame is = is
-out_in_hand st ((page, Write first values) ∷ cs) back frame is = is
-out_in_hand st ((page, Add cell value) ∷ cs) back frame is = is
-out_in_hand st ((page, Pin) ∷ cs) back frame is = is
-out_in_hand st ((page, Unpin) ∷ cs) back frame is = is
-out_in_hand st [] back frame is = is
 
 -- ---- the seats
 
@@ -127,7 +113,7 @@ module _ (s : Scenario) (m : Machine) (kept : IsKept s m) where
       return_handed = one_handed (opening s) (owner_view m i) (free_view m) frame.0 return_in_hand.0 resting.0 free_idle.rests return_in_hand.1
 
       pub return_out : out_for (space_now s m) frame.0 ≢ None
-      return_out = out_in_hand (space_now s m) a.left a.back frame.0 (kept.frames.in_hand i a frame.0 at resting.1)
+      return_out = is_out (space_now s m) frame.0 a.left a.back (kept.frames.in_hand i a frame.0 at resting.1)
 
     -- ---- a frame that the owner is leased
 

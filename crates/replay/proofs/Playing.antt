@@ -13,7 +13,6 @@ use Rattle.evac_model.specs.Geometry.{Sizes}
 use Rattle.evac_model.specs.ScenarioGrammar.{online_of}
 use Rattle.evac_model.specs.Scenarios.{IsRunnable}
 use Rattle.evac_model.specs.SpaceJournal.{Leased, lease_of, space_at_start}
-use Rattle.evac_words.specs.Word.{bit_of}
 use Rattle.core_state.specs.declared.keeper.Keeper.{Keeper}
 use Rattle.core_state.specs.declared.keeper.Keeper.TheVariants.{OneOwner}
 use Rattle.core_state.specs.declared.opening.Opening.{Opening}
@@ -24,7 +23,6 @@ use Rattle.core_state.specs.declared.step.Step.{Step}
 use Rattle.core_state.specs.declared.step.Step.TheVariants.{Take, Draw, Load, Store, Mark, Release}
 use Rattle.core_state.specs.declared.view.View.{View}
 use Rattle.core_state.specs.CoreOpens.{opening_of, opening_words, opening_views, owner_views, owner_view, scanner_view, keeper_view, keeper_views, free_hand, unplugged_hand}
-use Rattle.core_state.specs.CoreState.{notices_of}
 use Rattle.core_state.specs.HandOvers.{hand_without, hand_with}
 use Rattle.core_state.specs.MoveSteps.{view_after_move}
 use Rattle.core_state.specs.Steps.{view_after}
@@ -61,14 +59,6 @@ move_keeps_mover k v Moving = refl
 move_keeps_mover k v (Remap frame) = refl
 move_keeps_mover k v (Map frame kind) = refl
 move_keeps_mover k v Unmap = refl
-
-pub no_notices : (v : View) (step : Step) → v.mover ≡ [] → notices_of v step ≡ 0
-no_notices v (Take page) e = ap (λ (m : List Bool). bit_of (get_or m page.0 false)) e
-no_notices v Draw e = refl
-no_notices v (Load cell) e = refl
-no_notices v (Store frame cell value) e = refl
-no_notices v (Mark frame) e = refl
-no_notices v (Release end) e = refl
 
 -- ---- an action keeps them so
 

@@ -1,6 +1,6 @@
 -- What a machine leaves whose owners have all ended: a legal history, each script call once, the pages after it,
 -- and their frames.
-use Rattle.std.proofs.Common.{◌≡◌, ◌≢◌, ℕ, cond, Bool, eq-eqb, ne_eqb, zero, suc, ◌+◌, ◌<◌, ◌≤◌, List, [], ◌++◌, length, map, get_or, sym, refl, ap, ◌∙◌, subst, arith, Option, Some, None}
+use Rattle.std.proofs.Common.{◌≡◌, ◌≢◌, ℕ, cond, Bool, true, eq-eqb, ne_eqb, zero, suc, ◌+◌, ◌<◌, ◌≤◌, List, [], ◌++◌, length, map, get_or, sym, refl, ap, ◌∙◌, subst, arith, Option, Some, None}
 use Rattle.std.specs.Option.{option_map}
 use Rattle.std.specs.List.{slice_get, AllByRecursion}
 use Rattle.std.specs.List.Sorted.{IsStrictlyIncreasing}
@@ -16,7 +16,7 @@ use Rattle.evac_model.specs.Page.{PlainPage, Page}
 use Rattle.evac_model.specs.Pairing.{AreOutForPages, AreUnplugged}
 use Rattle.evac_model.specs.ScenarioGrammar.{online_of}
 use Rattle.evac_model.specs.Scenarios.{IsRunnable, IsOwnerCall}
-use Rattle.evac_model.specs.SpaceJournal.{space_after, space_at_start}
+use Rattle.evac_model.specs.SpaceJournal.{SpaceState, out_for, is_frame_in, space_after, space_at_start}
 use Rattle.evac_model.specs.State.{PlainState, page_at}
 use Rattle.evac_model.specs.History.{after_entries}
 use Rattle.evac_model.specs.Scripts.{script_of, numbered_call}
@@ -44,6 +44,7 @@ use Rattle.replay.proofs.EndCalls.{paired_at_end}
 use Rattle.replay.proofs.EndedOwners.{let_go}
 use Rattle.replay.proofs.EndFrames.{frames_at_end, unplugged_at_end}
 use Rattle.replay.proofs.Members.{there, all_at, get_or_at, numbered_at}
+use Rattle.replay.proofs.SpaceNow.{space_is}
 
 -- ---- pages as the words show them
 
@@ -134,6 +135,14 @@ module _ (s : Scenario) (m : Machine) (r : Report) (run : IsRunnable s) (k : IsK
       subst (λ (journal : List SpaceAction). AreUnplugged s.geometry (space_after s.geometry (online_of s) (space_at_start s.geometry s.start) journal) r.plugged) (sym rep.space)
       (subst (λ (plugged : List BlockNo). AreUnplugged s.geometry (space_now s m) plugged) (sym rep.plugged) (unplugged_at_end s m run k))
 
+  abbrev IsEmptied : SpaceState → Type 0
+  IsEmptied space = (frame : ℕ) → is_frame_in s.geometry space.offline frame ≡ true → out_for space frame ≡ None
+
+  no_unplugged : IsEmptied (space_reported s r)
+  no_unplugged =
+      subst (λ (journal : List SpaceAction). IsEmptied (space_after s.geometry (online_of s) (space_at_start s.geometry s.start) journal)) (sym rep.space)
+      (space_is s m run k.frames).emptied
+
   pub reports_tell_legal_histories : IsReportOf s r
   reports_tell_legal_histories = record {
     legal = histories_are_legal o words views (plain_start s) r.history k.seats.sound opens rep.history;
@@ -144,4 +153,5 @@ module _ (s : Scenario) (m : Machine) (r : Report) (run : IsRunnable s) (k : IsK
     space = paired_at_end s m r run k ended rep;
     frames = frames;
     offline = offline;
+    no_unplugged = no_unplugged;
   }

@@ -1,9 +1,10 @@
 -- Where the frames are while the machine runs, as the space's journal has them.
 use Rattle.std.specs.Prelude.{◌≡◌, ◌≢◌, ◌⊎◌, ◌↔◌, ℕ, suc, ◌+◌, ◌<◌, true, false, List, ◌∷◌, length, slice_get, Option, Some, None, IsSome}
 use Rattle.evac_model.specs.declared.names.FrameNo.{FrameNo}
+use Rattle.evac_model.specs.declared.names.Kind.{Kind}
 use Rattle.evac_model.specs.declared.names.PageNo.{PageNo}
 use Rattle.evac_model.specs.declared.call.Call.{Call}
-use Rattle.evac_model.specs.declared.call.Call.TheVariants.{Alloc}
+use Rattle.evac_model.specs.declared.call.Call.TheVariants.{Alloc, Free}
 use Rattle.evac_model.specs.declared.scenario.Scenario.{Scenario}
 use Rattle.evac_model.specs.Geometry.{frame_count}
 use Rattle.evac_model.specs.ScenarioGrammar.{online_of}
@@ -22,14 +23,16 @@ HasFrame m seat frame = IsSome (hand_frame (view_of m.snapshot.views seat) frame
 abbrev pub space_now : Scenario → Machine → SpaceState
 space_now s m = space_at (setting s) m.journal
 
--- a frame in an owner's hand is out: that of an alloc under way for its page and kind
+-- a frame in an owner's hand is out: that of an alloc under way for its page and kind, that of a free under way
+-- for its page, and one to be given back for some page
 abbrev pub IsOutForCall : SpaceState → List (PageNo × Call) → (back : Option FrameNo) → (frame : ℕ) → Type 0
 IsOutForCall st ((page, Alloc kind) ∷ cs) None frame = out_for st frame ≡ Some (record { page = page.0; kind = kind })
+IsOutForCall st ((page, Free) ∷ cs) None frame = (kind : Kind) × (out_for st frame ≡ Some (record { page = page.0; kind = kind }))
 IsOutForCall st calls back frame = out_for st frame ≢ None
 
 -- The journal is possible. The hand of the free frames has exactly those that are neither out nor in an offline
 -- block, that of the unplugged ones those of offline blocks, and the driver's and the scanner's are empty. A
--- mapped page's frame is out for it, with its kind, and a frame in an owner's hand for its call.
+-- mapped page's frame is out for it, with its kind, and a frame in an owner's hand for its call, or to be given back.
 pub record AreFramesPlaced (s : Scenario) (m : Machine) : Type 0 where
   pub possible : IsPossibleJournal s.geometry (online_of s) (space_at_start s.geometry s.start) m.journal
   pub free : (frame : ℕ) → frame < frame_count s.geometry → HasFrame m (free_seat (length m.owners)) frame ↔ ((out_for (space_now s m) frame ≡ None) × (is_frame_in s.geometry (space_now s m).offline frame ≡ false))

@@ -7,7 +7,7 @@ use Rattle.evac_model.specs.declared.call.Call.{Call}
 use Rattle.evac_model.specs.declared.scenario.Scenario.{Scenario}
 use Rattle.evac_model.specs.Pairing.{ArePaired, AreOutForPages, AreUnplugged}
 use Rattle.evac_model.specs.ScenarioGrammar.{call_count, online_of}
-use Rattle.evac_model.specs.SpaceJournal.{SpaceState, space_after, space_at_start}
+use Rattle.evac_model.specs.SpaceJournal.{SpaceState, out_for, is_frame_in, space_after, space_at_start}
 use Rattle.evac_model.specs.Page.{Page}
 use Rattle.evac_model.specs.State.{PlainState, start_state}
 use Rattle.evac_model.specs.History.{after_entries, IsLegal}
@@ -104,7 +104,8 @@ space_reported s r = space_after s.geometry (online_of s) (space_at_start s.geom
 -- The calls reported, in ticket order, are one legal history of pages that never move, each script
 -- call once, in its caller's order, and the pages reported are the state after it. The actions of the
 -- frame space are possible and are those of the calls, and a call has no frame only where none is free for it.
--- The frames out at the end are those of the mapped pages, and the offline blocks those that aren't plugged.
+-- The frames out at the end are those of the mapped pages, and the offline blocks those that aren't plugged. No frame
+-- that is out, and so no mapped page, lies in an offline block.
 pub record IsReportOf (s : Scenario) (r : Report) : Type 0 where
   pub legal : IsLegal s.geometry.cells (plain_start s) r.history
   pub scripts : IsOfScripts s.owners r.history
@@ -114,3 +115,4 @@ pub record IsReportOf (s : Scenario) (r : Report) : Type 0 where
   pub space : ArePaired s.geometry (online_of s) (space_at_start s.geometry s.start) r.history r.space_journal
   pub frames : AreOutForPages (space_reported s r) (after_entries s.geometry.cells (plain_start s) r.history)
   pub offline : AreUnplugged s.geometry (space_reported s r) r.plugged
+  pub no_unplugged : (frame : ℕ) → is_frame_in s.geometry (space_reported s r).offline frame ≡ true → out_for (space_reported s r) frame ≡ None
