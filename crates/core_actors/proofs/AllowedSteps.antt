@@ -30,7 +30,8 @@ use Rattle.core_actors.specs.Actions.{IsStorable}
 use Rattle.core_actors.specs.Fits.{since_take, past_loads, change_so_far, IsHeldFor, IsZeroed, HasInHand, zeroed_unmarked, Fits}
 use Rattle.core_actors.proofs.CallLists.{IsPlain, the_release as release_of, plain-lead, plain-action, plain-length, leading, trailing, length-tail, TailKind, takes as tail_takes, draws as tail_draws, maps, ends, tail_kind}
 use Rattle.core_actors.proofs.LeadKinds.{LeadKind, asks, zeroes, zeroed, lead_kind, lead-length-got, mapped-mapping, unmapped-mapping, freed, unfreed-unmapped, unfreed-pinned, freed-mapping, alloc_maps, free_unmaps}
-use Rattle.core_actors.proofs.PlainKinds.{step_at, StepKind, takes, draws, loads_cell, stores_cell, marks, releases, kind_at, middle-mapped, middle-unmapped, length-alike, the_frame}
+use Rattle.core_actors.proofs.CellKinds.{length-alike}
+use Rattle.core_actors.proofs.PlainKinds.{step_at, StepKind, takes, draws, loads_cell, stores_cell, marks, releases, kind_at, middle-mapped, middle-unmapped, the_frame}
 use Rattle.core_actors.proofs.HeldCells.{loads_within, stores_within, maps_here, stored_all}
 use Rattle.core_actors.proofs.SeatPlaces.{zeroed_before, not_stored_yet, marked_since, unmarked-plain, holds_some, holds_none, change-early, change-plain, undrawn_for, some_if}
 use Rattle.core_actors.proofs.AllowedMoves.{word-kept, leased_hand}

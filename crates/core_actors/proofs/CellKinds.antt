@@ -1,5 +1,5 @@
 -- The steps on the cells of a page, alike for each call: loads, stores and a mark.
-use Rattle.std.proofs.Common.{◌≡◌, ℕ, zero, suc, ◌+◌, ◌<◌, ◌≤◌, min, List, [], ◌∷◌, ◌++◌, length, length-append, get_or, refl, sym, ap, ◌∙◌, arith, Some, None}
+use Rattle.std.proofs.Common.{◌≡◌, ℕ, zero, suc, ◌+◌, ◌<◌, min, List, [], ◌∷◌, ◌++◌, length, length-append, get_or, refl, sym, ap, ◌∙◌, arith, Some}
 use Rattle.std.proofs.Common.{append-nil}
 use Rattle.std.specs.List.{slice_get}
 use Rattle.evac_model.specs.declared.names.FrameNo.{FrameNo}
@@ -32,16 +32,6 @@ cell_steps-alike s frame loads (Add cell value) fits = refl
 cell_steps-alike s frame loads Pin fits = refl
 cell_steps-alike s frame loads Unpin fits = refl
 
--- how many values are stored doesn't depend on what was loaded
-pub values-length : (loads more : List ℕ) (call : Call) → length (values_of loads call) ≡ length (values_of more call)
-values-length loads more (Alloc kind) = refl
-values-length loads more Free = refl
-values-length loads more (Read first count) = refl
-values-length loads more (Write first values) = refl
-values-length loads more (Add cell value) = refl
-values-length loads more Pin = refl
-values-length loads more Unpin = refl
-
 module _ (frame : FrameNo) where
   length-marked_stores : (first : ℕ) (xs : List ℕ) → length (marked_stores frame first xs) ≡ length xs + min (length xs) 1
   length-marked_stores first [] = refl
@@ -71,8 +61,3 @@ loads_then-past first zero rest j = let e : 0 + j ≡ j = omega arith in ap (λ 
 loads_then-past first (suc n) rest j =
     let e : suc n + j ≡ suc (n + j) = omega arith in
     ap (λ (k : ℕ). slice_get (load_steps first (suc n) ++ rest) k) e ∙ loads_then-past (first + 1) n rest j
-
-pub past_end : {A : Type 0} (xs : List A) (i : ℕ) → length xs ≤ i → slice_get xs i ≡ None
-past_end [] i le = refl
-past_end (x ∷ xs) zero le = absurd (omega arith)
-past_end (x ∷ xs) (suc i) le = past_end xs i (omega arith)

@@ -39,7 +39,8 @@ use Rattle.core_actors.specs.Counts.{HeardOfLease, IsUnderWayIn, IsUnderWay}
 use Rattle.core_actors.specs.Fits.{since_take, hand_of_call, hand_in, zeroed_unmarked, unmarked_for, drawn_for, IsHandFor, HasInHand, IsHeldFor, HoldsFor, Fits}
 use Rattle.core_actors.proofs.ActionKinds.{ActionKind, leases, zeroes, marks_zeros, takes, draws, loads_cell, stores_cell, marks, maps, unmaps, releases, action_at, kind_at, the_release, the_frame}
 use Rattle.core_actors.proofs.CallStates.{call_state, kept_before}
-use Rattle.core_actors.proofs.HeldSteps.{holds_none, none_held}
+use Rattle.core_actors.proofs.HeldSteps.{none_held}
+use Rattle.core_actors.proofs.SeatPlaces.{holds_none}
 use Rattle.core_actors.proofs.HandSteps.{within, hand_without_one, has_set_none}
 use Rattle.core_actors.proofs.FitSteps.{fits_take, fits_draw, fits_load, fits_store, fits_mark, fits_release}
 use Rattle.core_actors.proofs.FitLeases.{fits_leased, fits_refused, fits_zero, fits_zeroed}

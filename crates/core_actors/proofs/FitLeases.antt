@@ -26,7 +26,8 @@ use Rattle.core_actors.specs.Counts.{IsUnderWay}
 use Rattle.core_actors.specs.Fits.{since_take, hand_of_call, frame_in_hand, IsZeroed, IsHandFor, HasInHand, IsHeldFor, Fits}
 use Rattle.core_actors.proofs.ActionKinds.{length-lead}
 use Rattle.core_actors.proofs.CallStates.{call_state, kept_before, drawn_before, no_zero, some_zero, zero_marked}
-use Rattle.core_actors.proofs.HeldSteps.{holds_none, none_held}
+use Rattle.core_actors.proofs.HeldSteps.{none_held}
+use Rattle.core_actors.proofs.SeatPlaces.{holds_none}
 use Rattle.core_actors.proofs.HandSteps.{within, hand_with_one, has_same, has_set, zero_more}
 use Rattle.core_actors.proofs.FitSteps.{stored_in, stored_again, marked_in}
 

@@ -27,7 +27,8 @@ use Rattle.core_actors.specs.Owners.{OwnerState}
 use Rattle.core_actors.specs.Counts.{IsUnderWay}
 use Rattle.core_actors.specs.Fits.{since_take, word_with, change_by, hand_of_call, IsZeroed, IsHandFor, HasInHand, IsHeldFor, Fits}
 use Rattle.core_actors.proofs.CallStates.{call_state, lead_of, kept_before, changed_from, drawn_after, none_unmarked}
-use Rattle.core_actors.proofs.HeldSteps.{holds_some, holds_after, held_mapping}
+use Rattle.core_actors.proofs.HeldSteps.{holds_after, held_mapping}
+use Rattle.core_actors.proofs.SeatPlaces.{holds_some}
 use Rattle.core_actors.proofs.HandSteps.{within, has_set, has_set_none}
 
 module _ (s : Sizes) (o : Opening) (v : View) (script : List (PageNo × Call)) (owner n : ℕ) (page : PageNo) (cs : List (PageNo × Call)) (found : ℕ) (loads : List ℕ) (made : ℕ) where

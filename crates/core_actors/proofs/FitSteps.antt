@@ -38,7 +38,8 @@ use Rattle.core_actors.specs.Counts.{HeardOfLease, IsUnderWay}
 use Rattle.core_actors.specs.Fits.{since_take, mapped_to, change_by, change_so_far, hand_of_call, frame_in_hand, unmarked_for, drawn_for, IsHandFor, HasInHand, IsHeldFor, HoldsFor, Fits}
 use Rattle.core_actors.proofs.ActionKinds.{the_release, middle-length, middle-unmapped, lead_none, none_either}
 use Rattle.core_actors.proofs.CallStates.{call_state, lead_of, kept_before, kept_always, changed_from, drawn_before, drawn_after, change_none, plain_none, mapping_none, frame_if, no_store, some_store, all_marked, none_unmarked, unmarked_plain, unmarked_zero}
-use Rattle.core_actors.proofs.HeldSteps.{holds_after, holds_some, none_held, held_take, held_draw, held_load, held_store, held_mark}
+use Rattle.core_actors.proofs.HeldSteps.{holds_after, none_held, held_take, held_draw, held_load, held_store, held_mark}
+use Rattle.core_actors.proofs.SeatPlaces.{holds_some}
 use Rattle.core_actors.proofs.HandSteps.{hand_kept, hand_sized, hand_waiting, has_same, store_elsewhere}
 
 -- ---- the frames that are unmarked

@@ -11,6 +11,15 @@ use Rattle.core_actors.specs.CallSteps.{first_cell, load_count, values_of}
 use Rattle.core_actors.specs.Owners.{OwnerState}
 use Rattle.core_actors.specs.Fits.{past_loads, stored}
 
+pub loads_few : (s : Sizes) (call : Call) → IsCallFor s call → load_count call ≤ 8
+loads_few s (Alloc kind) fits = omega arith
+loads_few s Free fits = omega arith
+loads_few s (Read first count) fits = fits.1
+loads_few s (Write first values) fits = omega arith
+loads_few s (Add cell value) fits = omega arith
+loads_few s Pin fits = omega arith
+loads_few s Unpin fits = omega arith
+
 pub loads_within : (s : Sizes) (call : Call) → IsCallFor s call → first_cell call + load_count call ≤ s.cells
 loads_within s (Alloc kind) fits = omega arith
 loads_within s Free fits = omega arith

@@ -1,10 +1,9 @@
 -- What an owner's seat holds after each kind of step.
-use Rattle.std.proofs.Common.{◌≡◌, ℕ, zero, suc, eqb, eq-eqb, ◌+◌, ◌-◌, ◌<◌, ◌≤◌, ◌==◌, min, Bool, true, List, [], ◌∷◌, ◌++◌, length, take, get_or, set, bit_or, refl, sym, ap, ◌∙◌, subst, arith, Option, Some, None, if◌then◌else◌, IsSomeAnd}
+use Rattle.std.proofs.Common.{◌≡◌, ℕ, zero, suc, eq-eqb, ◌+◌, ◌-◌, ◌<◌, ◌≤◌, min, Bool, List, [], ◌∷◌, ◌++◌, length, take, get_or, set, bit_or, refl, sym, ap, ◌∙◌, subst, arith, Option, Some, None, if◌then◌else◌, IsSomeAnd}
 use Rattle.std.proofs.lemmas.List.{length-take-le}
 use Rattle.std.proofs.Math.Seq.{take-suc}
 use Rattle.evac_model.specs.declared.names.PageNo.{PageNo}
 use Rattle.evac_model.specs.declared.call.Call.{Call}
-use Rattle.evac_model.specs.declared.call.Call.TheVariants.{Alloc, Free, Read, Write, Add, Pin, Unpin}
 use Rattle.evac_model.specs.Geometry.{Sizes}
 use Rattle.evac_model.specs.Calls.{IsCallFor}
 use Rattle.evac_words.specs.Word.{taken_bit, mapped_bit, frame_of}
@@ -13,47 +12,19 @@ use Rattle.core_state.specs.declared.held.Change.TheVariants.{Kept}
 use Rattle.core_state.specs.declared.held.Held.{Held}
 use Rattle.core_state.specs.Views.{maps_to}
 use Rattle.core_state.specs.Steps.{nothing_known, newly_held, note, with_ticket, with_load, with_store}
-use Rattle.core_state.proofs.EntryWords.{same_flags-take}
 use Rattle.core_actors.specs.declared.action.LeaseSeen.{LeaseSeen}
 use Rattle.core_actors.specs.CallSteps.{first_cell, load_count, values_of}
 use Rattle.core_actors.specs.Owners.{OwnerState}
 use Rattle.core_actors.specs.Fits.{past_loads, stored, known_from, change_by, change_so_far, word_with, IsHeldFor, HoldsAfter}
+use Rattle.core_actors.proofs.HeldCells.{loads_within, stores_within, stored_all, maps_here}
 use Rattle.core_actors.proofs.Known.{known_from-push, known_from-none, nothing_there}
 use Rattle.core_actors.proofs.CallStates.{call_state, lead_of, kept_before, kept_always, changed_from, loads_zero, stored_zero, take_none}
-
--- ---- the cells of a call are cells of its page
-
-pub loads_within : (s : Sizes) (call : Call) → IsCallFor s call → first_cell call + load_count call ≤ s.cells
-loads_within s (Alloc kind) fits = omega arith
-loads_within s Free fits = omega arith
-loads_within s (Read first count) fits = fits.2
-loads_within s (Write first values) fits = let few = fits.2 in omega arith
-loads_within s (Add cell value) fits = omega arith
-loads_within s Pin fits = omega arith
-loads_within s Unpin fits = omega arith
-
-pub stores_within : (s : Sizes) (loads : List ℕ) (call : Call) → IsCallFor s call → first_cell call + length (values_of loads call) ≤ s.cells
-stores_within s loads (Alloc kind) fits = omega arith
-stores_within s loads Free fits = omega arith
-stores_within s loads (Read first count) fits = let few = fits.2 in omega arith
-stores_within s loads (Write first values) fits = fits.2
-stores_within s loads (Add cell value) fits = omega arith
-stores_within s loads Pin fits = omega arith
-stores_within s loads Unpin fits = omega arith
 
 -- ---- no page, or one
 
 pub holds_after : (n : ℕ) (P : Held → Type 0) (held : Option Held) → 0 < n → IsSomeAnd held P → HoldsAfter n P held
 holds_after zero P held lt some = absurd (omega arith)
 holds_after (suc n) P held lt some = some
-
-pub holds_some : (n : ℕ) (P : Held → Type 0) (held : Option Held) → 0 < n → HoldsAfter n P held → IsSomeAnd held P
-holds_some zero P held lt some = absurd (omega arith)
-holds_some (suc n) P held lt some = some
-
-pub holds_none : (n : ℕ) (P : Held → Type 0) (held : Option Held) → n ≡ 0 → HoldsAfter n P held → held ≡ None
-holds_none zero P held e none = none
-holds_none (suc n) P held e none = absurd (omega arith)
 
 pub none_held : (n : ℕ) (P : Held → Type 0) (held : Option Held) → n ≡ 0 → held ≡ None → HoldsAfter n P held
 none_held zero P held e none = none
@@ -64,26 +35,9 @@ none_held (suc n) P held e none = absurd (omega arith)
 pub stored_none : (a : OwnerState) (call : Call) → past_loads a call ≡ 0 → stored a call ≡ []
 stored_none a call e = ap (λ (k : ℕ). take k (values_of a.loads call)) e
 
-all_taken : (xs : List ℕ) (k : ℕ) → length xs ≤ k → take k xs ≡ xs
-all_taken [] zero le = refl
-all_taken [] (suc k) le = refl
-all_taken (x ∷ xs) zero le = absurd (omega arith)
-all_taken (x ∷ xs) (suc k) le = ap (λ (l : List ℕ). x ∷ l) (all_taken xs k (omega arith))
-
-pub stored_all : (a : OwnerState) (call : Call) → length (values_of a.loads call) ≤ past_loads a call → stored a call ≡ values_of a.loads call
-stored_all a call le = all_taken (values_of a.loads call) (past_loads a call) le
-
 pub no_loads : (xs : List ℕ) → length xs ≡ 0 → xs ≡ []
 no_loads [] e = refl
 no_loads (x ∷ xs) e = absurd (omega arith)
-
--- the held word maps the frame that the take found
-pub maps_here : (w : ℕ) → mapped_bit w ≡ 1 → maps_to (frame_of w) (bit_or w 1) ≡ 1
-maps_here w mapped =
-    let same = same_flags-take w in
-    let m : eqb (mapped_bit (bit_or w 1)) 1 ≡ true = eq-eqb _ _ (same.mapped ∙ mapped) in
-    let f : eqb (frame_of (bit_or w 1)) (frame_of w) ≡ true = eq-eqb _ _ same.frame in
-    ap (λ (b : Bool). if b then (if frame_of (bit_or w 1) == frame_of w then 1 else 0) else 0) m ∙ ap (λ (b : Bool). if b then 1 else 0) f
 
 -- ---- each kind of step
 

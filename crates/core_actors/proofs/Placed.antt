@@ -5,7 +5,6 @@ use Rattle.std.specs.List.{AllByRecursion}
 use Rattle.evac_model.specs.declared.names.FrameNo.{FrameNo}
 use Rattle.evac_model.specs.declared.names.PageNo.{PageNo}
 use Rattle.evac_model.specs.declared.call.Call.{Call}
-use Rattle.evac_model.specs.declared.call.Call.TheVariants.{Alloc, Free, Read, Write, Add, Pin, Unpin}
 use Rattle.evac_model.specs.Geometry.{Sizes}
 use Rattle.evac_model.specs.Calls.{IsCallFor}
 use Rattle.evac_words.specs.Word.{taken_bit}
@@ -25,6 +24,7 @@ use Rattle.core_actors.specs.Owners.{OwnerState, before_call, owner_ended, are_n
 use Rattle.core_actors.specs.Actions.{owner_heard, action_of, ends_with_next}
 use Rattle.core_actors.specs.OwnerInside.{IsPlacedIn}
 use Rattle.core_actors.proofs.ActionLists.{length-call}
+use Rattle.core_actors.proofs.HeldCells.{loads_few}
 use Rattle.core_actors.proofs.CallKinds.{LeadIs, BehindIs, lead_or_loads, length-lead, length-behind, few_behind, action_with, leading, ActionKind, leads, takes, draws, behind, releases, kind_of}
 
 -- ---- the owner after its next action
@@ -133,15 +133,6 @@ module _ (owner cells : ℕ) (c : PageNo × Call) (cs : List (PageNo × Call)) (
         let few = few_behind s c.1 lease found loads fits in
         let below = way.0 in
         omega arith
-
-loads_few : (s : Sizes) (call : Call) → IsCallFor s call → load_count call ≤ 8
-loads_few s (Alloc kind) fits = omega arith
-loads_few s Free fits = omega arith
-loads_few s (Read first count) fits = fits.1
-loads_few s (Write first values) fits = omega arith
-loads_few s (Add cell value) fits = omega arith
-loads_few s Pin fits = omega arith
-loads_few s Unpin fits = omega arith
 
 module _ (owner cells : ℕ) (lease : LeaseSeen) (found : ℕ) (loads : List ℕ) (made : ℕ) where
   abbrev state : List (PageNo × Call) → Option FrameNo → OwnerState

@@ -1,30 +1,20 @@
 -- How many actions and loads a call under way has at most.
-use Rattle.std.proofs.Common.{◌≡◌, ℕ, ◌+◌, ◌<◌, ◌≤◌, List, [], ◌∷◌, length, subst, arith, Option, None, Some}
+use Rattle.std.proofs.Common.{◌≡◌, ℕ, ◌+◌, ◌<◌, List, [], ◌∷◌, length, subst, arith, Option, None, Some}
 use Rattle.std.specs.List.{AllByRecursion}
 use Rattle.evac_model.specs.declared.names.FrameNo.{FrameNo}
 use Rattle.evac_model.specs.declared.names.PageNo.{PageNo}
 use Rattle.evac_model.specs.declared.call.Call.{Call}
-use Rattle.evac_model.specs.declared.call.Call.TheVariants.{Alloc, Free, Read, Write, Add, Pin, Unpin}
 use Rattle.evac_model.specs.Geometry.{Sizes}
-use Rattle.evac_model.specs.Calls.{IsCallFor}
 use Rattle.core_state.specs.declared.step.Step.TheVariants.{Load}
 use Rattle.core_actors.specs.declared.action.Action.{Action}
 use Rattle.core_actors.specs.declared.action.Action.TheVariants as actions
 use Rattle.core_actors.specs.declared.action.LeaseSeen.{LeaseSeen}
-use Rattle.core_actors.specs.CallSteps.{IsCallOf, load_count}
+use Rattle.core_actors.specs.CallSteps.{IsCallOf}
 use Rattle.core_actors.specs.Owners.{OwnerState, next_action}
 use Rattle.core_actors.specs.Counts.{most_actions, IsUnderWay}
+use Rattle.core_actors.proofs.HeldCells.{loads_few}
 use Rattle.core_actors.proofs.UnderWay.{StandsNow, stands_now}
 use Rattle.core_actors.proofs.Left.{most_actions-few, below_most}
-
-loads_few : (s : Sizes) (call : Call) → IsCallFor s call → load_count call ≤ 8
-loads_few s (Alloc kind) fits = omega arith
-loads_few s Free fits = omega arith
-loads_few s (Read first count) fits = fits.1
-loads_few s (Write first values) fits = omega arith
-loads_few s (Add cell value) fits = omega arith
-loads_few s Pin fits = omega arith
-loads_few s Unpin fits = omega arith
 
 module _ (owner cells : ℕ) (lease : LeaseSeen) (found : ℕ) (loads : List ℕ) (made : ℕ) (s : Sizes) where
   abbrev kept : List (PageNo × Call) → Option FrameNo → OwnerState

@@ -1,4 +1,4 @@
--- The steps that an owner makes for each of its calls, and the reply that the last of them gives.
+-- The actions that an owner makes for each of its calls, and the reply that the release gives.
 use Rattle.std.specs.Prelude.{ℕ, ◌+◌, ◌%◌, ◌^◌, ◌<◌, Bool, ◌==◌, ◌&&◌, if◌then◌else◌, List, [], ◌∷◌, ◌++◌, map, slice_index, Option, None, Some}
 use Rattle.std.specs.List.{range_with_len}
 use Rattle.evac_model.specs.declared.names.FrameNo.{FrameNo}

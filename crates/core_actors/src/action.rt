@@ -76,6 +76,6 @@ pub enum Action {
     Move(MoveStep),
     /// It asks the frame space.
     Space(SpaceCall),
-    /// It has made its last step.
+    /// It has made its last action.
     Ended,
 }
