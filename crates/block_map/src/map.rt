@@ -43,7 +43,7 @@ impl BlockMap {
     ghost use Rattle.std.specs.List.{range_with_len};
     ghost use Rattle.evac_model.specs.Geometry.{IsWithinLimits, block_bytes};
     ghost use Rattle.evac_model.specs.Numbers.{is_in, with_range, without_range, IsRisingBelow};
-    ghost use Rattle.block_map.specs.Blocks.{IsAllPlugged, IsNonePlugged};
+    ghost use Rattle.block_map.specs.Blocks.{IsAllPlugged, IsNonePlugged, state_told};
 
     /// The map of a machine at its start: the blocks below `plugged` are plugged. It fails where
     /// there is no memory for the words.
@@ -106,6 +106,7 @@ impl BlockMap {
         ensures plugged { (result ≡ STATE_PLUGGED) ↔ IsAllPlugged first.0 n self.now.plugged }
         ensures unplugged { (result ≡ STATE_UNPLUGGED) ↔ IsNonePlugged first.0 n self.now.plugged }
         ensures range { result ≤ STATE_MIXED }
+        ensures state { result ≡ state_told self.now.plugged first.0 n }
     {
         let managed = self.geometry.managed();
         if are_all_set(&self.words, managed, first.0, n) {

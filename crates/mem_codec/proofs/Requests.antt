@@ -1,14 +1,17 @@
 -- What the bytes of a request say, and which bytes say it.
-use Rattle.std.proofs.Common.{◌≡◌, ℕ, zero, suc, false, ◌^◌, ◌<◌, List, [], ◌++◌, length, take, drop, replicate, refl, sym, ap, ◌∙◌, arith, lit<, Result, Ok, Err, IfOk, length-append}
-use Rattle.std.proofs.lemmas.Bool.{ne_eqb}
+use Rattle.std.proofs.Common.{◌≡◌, ◌≢◌, ℕ, zero, suc, ◌+◌, ◌*◌, true, false, ◌^◌, ◌<◌, ◌≤◌, List, [], ◌∷◌, ◌++◌, length, take, drop, replicate, refl, sym, ap, ◌∙◌, arith, lit<, Some, None, Result, Ok, Err, IfOk, MatchResult, length-append}
+use Rattle.std.proofs.lemmas.Bool.{eq-eqb, ne_eqb}
 use Rattle.std.proofs.Math.Dec.{eqb}
 use Rattle.std.proofs.lemmas.List.{append_assoc, length-take-le, length-drop}
+use Rattle.byteorder.specs.Endian.{little_number}
+use Rattle.byteorder.specs.Numbers.{little_from-cons}
+use Rattle.evac_model.specs.DeviceAnswer.{le_number, request_of_type, request_in}
 use Rattle.evac_model.specs.declared.device.Request.{Request}
 use Rattle.evac_model.specs.declared.device.Request.TheVariants.{Plug, Unplug, UnplugAll, State}
 use Rattle.mem_codec.specs.declared.fault.RequestFault.{RequestFault}
 use Rattle.mem_codec.specs.declared.fault.RequestFault.TheVariants.{Kind}
 use Rattle.mem_codec.specs.Fields.{le16, le64, le16_at, le64_at, zeros, overwritten}
-use Rattle.mem_codec.specs.RequestBytes.{request_fields, SpellsRequest, RequestBytes}
+use Rattle.mem_codec.specs.RequestBytes.{request_fields, SpellsRequest, AreRequestBytes}
 use Rattle.mem_codec.specs.Reading.{request_of}
 use Rattle.mem_codec.proofs.Numbers.{IsBytes}
 use Rattle.mem_codec.proofs.Places.{drop_cut, drop-le16, drop-le64, le16_at-le16, le64_at-le64, le16_at-lt, le64_at-lt, length-le16, length-le64}
@@ -73,7 +76,7 @@ request_of-above kind addr count h =
     rw (e0, e1, e2, e3) refl
 
 -- the request of the fields is spelled by them
-request_of-spelled : (bytes : List ℕ) (kind addr count : ℕ) → SpellsRequest bytes kind addr count → IfOk (request_of kind addr count) (RequestBytes bytes)
+request_of-spelled : (bytes : List ℕ) (kind addr count : ℕ) → SpellsRequest bytes kind addr count → IfOk (request_of kind addr count) (AreRequestBytes bytes)
 request_of-spelled bytes zero addr count s = s
 request_of-spelled bytes (suc zero) addr count s = s
 request_of-spelled bytes (suc (suc zero)) addr count s = (addr, count, s)
@@ -82,7 +85,7 @@ request_of-spelled bytes (suc (suc (suc (suc kind)))) addr count s =
     rw (request_of-above (suc (suc (suc (suc kind)))) addr count (omega arith)) tt
 
 -- a request that is spelled is the one of its fields
-request_of-places : (bytes : List ℕ) (r : Request) → RequestBytes bytes r → (length bytes ≡ 24) × (request_of (le16_at 0 bytes) (le64_at 8 bytes) (le16_at 16 bytes) ≡ Ok r)
+request_of-places : (bytes : List ℕ) (r : Request) → AreRequestBytes bytes r → (length bytes ≡ 24) × (request_of (le16_at 0 bytes) (le64_at 8 bytes) (le16_at 16 bytes) ≡ Ok r)
 request_of-places bytes (Plug addr count) s =
     let p = request_places bytes 0 addr count (lit< tt) s in
     (p.long, rw (p.kind_is, p.addr_is, p.count_is) refl)
@@ -97,20 +100,20 @@ request_of-places bytes (State addr count) s =
     (p.long, rw (p.kind_is, p.addr_is, p.count_is) refl)
 
 -- bytes of a request are 24
-pub request_length : (bytes : List ℕ) (r : Request) → RequestBytes bytes r → length bytes ≡ 24
+pub request_length : (bytes : List ℕ) (r : Request) → AreRequestBytes bytes r → length bytes ≡ 24
 request_length bytes r s = (request_of-places bytes r s).0
 
 -- what a reader found is spelled
-pub reader_found : (bytes : List ℕ) (kind addr count : ℕ) (answer : Result Request RequestFault) → length bytes ≡ 24 → IsBytes bytes → kind ≡ le16_at 0 bytes → addr ≡ le64_at 8 bytes → count ≡ le16_at 16 bytes → answer ≡ request_of kind addr count → IfOk answer (RequestBytes bytes)
+pub reader_found : (bytes : List ℕ) (kind addr count : ℕ) (answer : Result Request RequestFault) → length bytes ≡ 24 → IsBytes bytes → kind ≡ le16_at 0 bytes → addr ≡ le64_at 8 bytes → count ≡ le16_at 16 bytes → answer ≡ request_of kind addr count → IfOk answer (AreRequestBytes bytes)
 reader_found bytes kind addr count answer l b k a c e =
     rw (e, k, a, c) (request_of-spelled bytes (le16_at 0 bytes) (le64_at 8 bytes) (le16_at 16 bytes) (spells_places bytes l b))
 
 -- what is spelled a reader finds
-pub reader_only : (bytes : List ℕ) (kind addr count : ℕ) (answer : Result Request RequestFault) → kind ≡ le16_at 0 bytes → addr ≡ le64_at 8 bytes → count ≡ le16_at 16 bytes → answer ≡ request_of kind addr count → (r : Request) → RequestBytes bytes r → answer ≡ Ok r
+pub reader_only : (bytes : List ℕ) (kind addr count : ℕ) (answer : Result Request RequestFault) → kind ≡ le16_at 0 bytes → addr ≡ le64_at 8 bytes → count ≡ le16_at 16 bytes → answer ≡ request_of kind addr count → (r : Request) → AreRequestBytes bytes r → answer ≡ Ok r
 reader_only bytes kind addr count answer k a c e r s = rw (e, k, a, c) ((request_of-places bytes r s).1)
 
 -- bytes spell one request
-pub one_request : (bytes : List ℕ) (r s : Request) → RequestBytes bytes r → RequestBytes bytes s → r ≡ s
+pub one_request : (bytes : List ℕ) (r s : Request) → AreRequestBytes bytes r → AreRequestBytes bytes s → r ≡ s
 one_request bytes r s x y =
     let e : ◌≡◌ {A = Result Request RequestFault} (Ok r) (Ok s) = sym ((request_of-places bytes r x).1) ∙ (request_of-places bytes s y).1 in cc
 
@@ -118,3 +121,53 @@ one_request bytes r s x y =
 pub request_written : (kind addr count : ℕ) (out : List ℕ) → out ≡ replicate 24 0 → overwritten 16 (le16 count) (overwritten 8 (le64 addr) (overwritten 0 (le16 kind) out)) ≡ request_fields kind zeros addr count zeros
 unfolding request_fields le16 le64
 request_written kind addr count out e = rw e refl
+
+-- the number of n bytes, as a device reads it
+le_number-little : (n : ℕ) (xs : List ℕ) → n ≤ length xs → le_number (take n xs) ≡ little_number n xs
+le_number-little zero xs h = refl
+le_number-little (suc n) [] h = absurd (omega arith)
+le_number-little (suc n) (x ∷ xs) h =
+    ap (λ (m : ℕ). x + 256 * m) (le_number-little n xs (omega arith) ∙ sym (little_from-cons 0 n x xs))
+
+le_number-le16 : (place : ℕ) (bytes : List ℕ) → place + 2 ≤ length bytes → le_number (take 2 (drop place bytes)) ≡ le16_at place bytes
+unfolding le16_at
+le_number-le16 place bytes h = le_number-little 2 (drop place bytes) (omega (arith, length-drop place bytes))
+
+le_number-le64 : (place : ℕ) (bytes : List ℕ) → place + 8 ≤ length bytes → le_number (take 8 (drop place bytes)) ≡ le64_at place bytes
+unfolding le64_at
+le_number-le64 place bytes h = le_number-little 8 (drop place bytes) (omega (arith, length-drop place bytes))
+
+-- the request that a device takes 24 bytes for
+request_in-places : (bytes : List ℕ) → length bytes ≡ 24 → request_in bytes ≡ request_of_type (le16_at 0 bytes) (le64_at 8 bytes) (le16_at 16 bytes)
+request_in-places bytes l =
+    let long : eqb (length bytes) 24 ≡ true = eq-eqb (length bytes) 24 l in
+    let kind : le_number (take 2 bytes) ≡ le16_at 0 bytes = le_number-le16 0 bytes (omega (arith, l)) in
+    let addr : le_number (take 8 (drop 8 bytes)) ≡ le64_at 8 bytes = le_number-le64 8 bytes (omega (arith, l)) in
+    let count : le_number (take 2 (drop 16 bytes)) ≡ le16_at 16 bytes = le_number-le16 16 bytes (omega (arith, l)) in
+    rw (long, kind, addr, count) refl
+
+-- other bytes are none
+pub request_in-length : (bytes : List ℕ) → length bytes ≢ 24 → request_in bytes ≡ None
+request_in-length bytes ne = let e : eqb (length bytes) 24 ≡ false = ne_eqb (length bytes) 24 ne in rw e refl
+
+request_of_type-above : (kind addr count : ℕ) → 3 < kind → request_of_type kind addr count ≡ None
+request_of_type-above kind addr count h =
+    let e0 : eqb kind 0 ≡ false = ne_eqb kind 0 (λ e. omega (arith, e, h)) in
+    let e1 : eqb kind 1 ≡ false = ne_eqb kind 1 (λ e. omega (arith, e, h)) in
+    let e2 : eqb kind 2 ≡ false = ne_eqb kind 2 (λ e. omega (arith, e, h)) in
+    let e3 : eqb kind 3 ≡ false = ne_eqb kind 3 (λ e. omega (arith, e, h)) in
+    rw (e0, e1, e2, e3) refl
+
+-- the reader and the device tell the types alike
+request_of-type : (kind addr count : ℕ) → MatchResult (request_of kind addr count) (λ r. request_of_type kind addr count ≡ Some r) (λ _. request_of_type kind addr count ≡ None)
+request_of-type zero addr count = refl
+request_of-type (suc zero) addr count = refl
+request_of-type (suc (suc zero)) addr count = refl
+request_of-type (suc (suc (suc zero))) addr count = refl
+request_of-type (suc (suc (suc (suc kind)))) addr count =
+    rw (request_of-above (suc (suc (suc (suc kind)))) addr count (omega arith)) (request_of_type-above (suc (suc (suc (suc kind)))) addr count (omega arith))
+
+-- what a reader answers is what a device takes the bytes for
+pub reader_request : (bytes : List ℕ) (kind addr count : ℕ) (answer : Result Request RequestFault) → length bytes ≡ 24 → kind ≡ le16_at 0 bytes → addr ≡ le64_at 8 bytes → count ≡ le16_at 16 bytes → answer ≡ request_of kind addr count → MatchResult answer (λ r. request_in bytes ≡ Some r) (λ _. request_in bytes ≡ None)
+reader_request bytes kind addr count answer l k a c e =
+    rw (e, k, a, c, request_in-places bytes l) (request_of-type (le16_at 0 bytes) (le64_at 8 bytes) (le16_at 16 bytes))

@@ -19,11 +19,11 @@ pub record SpellsRequest (bytes : List ℕ) (kind addr count : ℕ) : Type 0 whe
   pub spelled : bytes ≡ request_fields kind first addr count second
 
 -- the bytes spell the request; those of an UNPLUG_ALL have any address and any number of blocks
-abbrev pub RequestBytes : List ℕ → Request → Type 0
-RequestBytes bytes (Plug addr count) = SpellsRequest bytes 0 addr count
-RequestBytes bytes (Unplug addr count) = SpellsRequest bytes 1 addr count
-RequestBytes bytes UnplugAll = (addr count : ℕ) × SpellsRequest bytes 2 addr count
-RequestBytes bytes (State addr count) = SpellsRequest bytes 3 addr count
+abbrev pub AreRequestBytes : List ℕ → Request → Type 0
+AreRequestBytes bytes (Plug addr count) = SpellsRequest bytes 0 addr count
+AreRequestBytes bytes (Unplug addr count) = SpellsRequest bytes 1 addr count
+AreRequestBytes bytes UnplugAll = (addr count : ℕ) × SpellsRequest bytes 2 addr count
+AreRequestBytes bytes (State addr count) = SpellsRequest bytes 3 addr count
 
 -- the spelling that is written: zeros wherever nothing is said
 abbrev pub request_bytes : Request → List ℕ

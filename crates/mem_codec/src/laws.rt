@@ -4,18 +4,18 @@ ghost use Rattle.std.specs.Prelude.{◌≡◌, ℕ, List};
 ghost use Rattle.evac_model.specs.declared.device.Request.{Request};
 ghost use Rattle.evac_model.specs.declared.device.Response.{Response};
 ghost use Rattle.evac_model.specs.declared.device.Config.{Config};
-ghost use Rattle.mem_codec.specs.RequestBytes.{RequestBytes, RequestFits, request_bytes};
+ghost use Rattle.mem_codec.specs.RequestBytes.{AreRequestBytes, RequestFits, request_bytes};
 ghost use Rattle.mem_codec.specs.ResponseBytes.{ResponseBytes, HasState, response_bytes};
 ghost use Rattle.mem_codec.specs.ConfigBytes.{ConfigBytes, ConfigFits, config_bytes};
 
 /// What is written for a request spells it, so that reading gives it back.
 pub fn request_reads_back()
-    ensures { (r : Request) → RequestFits r → RequestBytes (request_bytes r) r }
+    ensures { (r : Request) → RequestFits r → AreRequestBytes (request_bytes r) r }
 {}
 
 /// Bytes spell at most one request.
 pub fn one_request()
-    ensures { (bytes : List ℕ) (r s : Request) → RequestBytes bytes r → RequestBytes bytes s → r ≡ s }
+    ensures { (bytes : List ℕ) (r s : Request) → AreRequestBytes bytes r → AreRequestBytes bytes s → r ≡ s }
 {}
 
 /// What is written for a response spells it, so that reading gives it back.

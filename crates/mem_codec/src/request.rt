@@ -1,9 +1,10 @@
 //! Requests as bytes: type (2 bytes), padding (6), address (8), number of blocks (2), padding (6).
 
-ghost use Rattle.std.specs.Prelude.{◌≡◌, ◌<◌, ◌≢◌, ◌↔◌, IfOk, length};
+ghost use Rattle.std.specs.Prelude.{◌≡◌, ◌<◌, ◌≢◌, ◌↔◌, IfOk, MatchResult, length};
 ghost use Rattle.evac_model.specs.declared.device.Request.{Request};
+ghost use Rattle.evac_model.specs.DeviceAnswer.{request_in};
 ghost use Rattle.mem_codec.specs.Fields.{le16_at, zeros};
-ghost use Rattle.mem_codec.specs.RequestBytes.{RequestBytes, request_bytes, request_fields};
+ghost use Rattle.mem_codec.specs.RequestBytes.{AreRequestBytes, request_bytes, request_fields};
 ghost use Rattle.mem_codec.specs.Reading.{request_of};
 
 use crate::fault::RequestFault;
@@ -31,8 +32,11 @@ fn request_by_type(kind: u16, addr: u64, count: u16) -> Result<Request, RequestF
 /// of an UNPLUG_ALL.
 pub fn read_request(bytes: &[u8]) -> Result<Request, RequestFault>
     // What is read is spelled so, and what is spelled so is read.
-    ensures found { IfOk result (λ r. RequestBytes bytes.now r) }
-    ensures only { (r : Request) → RequestBytes bytes.now r → result ≡ Ok r }
+    ensures found { IfOk result (λ r. AreRequestBytes bytes.now r) }
+    ensures only { (r : Request) → AreRequestBytes bytes.now r → result ≡ Ok r }
+
+    // It is the request that a memory device takes the bytes for, and a fault comes where they are none.
+    ensures request { MatchResult result (λ r. request_in bytes.now ≡ Some r) (λ _. request_in bytes.now ≡ None) }
 
     // Which fault it is.
     ensures length_fault { (result ≡ Err RequestFault.Length) ↔ (length bytes.now ≢ REQUEST_BYTES) }

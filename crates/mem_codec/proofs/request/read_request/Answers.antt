@@ -1,5 +1,5 @@
 use Rattle.std.proofs.Common.{arith}
-use Rattle.mem_codec.proofs.Requests.{request_length, reader_found, reader_only}
+use Rattle.mem_codec.proofs.Requests.{request_length, reader_found, reader_only, reader_request, request_in-length}
 use Rattle.mem_codec.proofs.request.read_request.Goals as goal
 
 pub returns-then-bytes-ne-REQUEST_BYTES-clause-only :
@@ -14,3 +14,11 @@ returns-clause-found c =
 pub returns-clause-only : goal.returns-clause-only
 returns-clause-only c =
     reader_only c.args.bytes.now _ _ _ _ c.u16_at.ensures c.u64_at.ensures c.u16_at-2.ensures c.request_by_type.ensures
+
+pub returns-then-bytes-ne-REQUEST_BYTES-clause-request :
+    goal.returns-then-bytes-ne-REQUEST_BYTES-clause-request
+returns-then-bytes-ne-REQUEST_BYTES-clause-request c = request_in-length c.args.bytes.now c.if-bytes-ne-REQUEST_BYTES.true
+
+pub returns-clause-request : goal.returns-clause-request
+returns-clause-request c =
+    reader_request c.args.bytes.now _ _ _ _ (omega arith) c.u16_at.ensures c.u64_at.ensures c.u16_at-2.ensures c.request_by_type.ensures

@@ -1,0 +1,23 @@
+//! Who is told of the plugged blocks, and what backs them: a listener maps blocks for devices that
+//! access memory by themselves, and the backing gives memory back to the host (after QEMU's
+//! `RamDiscardManager` and its `ram_block_discard_range`).
+//!
+//! A listener tells its blocks, counts its refusals and may tell a limit. A backing counts its
+//! faults and may tell which of its calls fail. The traits say what each call does to these.
+#![tactic(auto)]
+
+mod backing;
+mod fault;
+mod listener;
+mod registry;
+mod slate;
+
+pub use backing::Backing;
+pub use evac_model::{BlockNo, NumberList};
+pub use fault::{Failed, Refused};
+pub use listener::Listener;
+pub use registry::Registry;
+pub use slate::{Slate, SureSlate};
+
+#[cfg(test)]
+mod tests;

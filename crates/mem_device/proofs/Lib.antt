@@ -1,0 +1,7 @@
+pub mod Blocks
+pub mod Hands
+pub mod Ranges
+pub mod Answers
+pub mod Journals
+pub mod HandParts
+pub mod Busy

@@ -1,0 +1,23 @@
+use Rattle.std.proofs.Common.{arith}
+use Rattle.evac_model.specs.Numbers.{is_in, is_between, with_range}
+use Rattle.std.proofs.Common.{◌||◌, ◌+◌}
+use Rattle.mem_device.proofs.Answers.{merged_none, has_unplugged, parted, managed_after, numbers_rising}
+use Rattle.mem_device.proofs.memory.Memory.plug.Goals as goal
+
+pub part-back-requires-clause-has : goal.part-back-requires-clause-has
+part-back-requires-clause-has g c =
+    let m = c.args.self.now.map in
+    has_unplugged m.sizes m.plugged _ c.in-Ok.first.0 c.args.count
+    (merged_none m.sizes m.plugged _ _ _ c.requires.managed.unplugged c.requires.held c.merge.ensures.takes)
+    c.in-Ok.ensures.unplugged c.in-Ok.ensures.inside
+
+pub returns-in-Ok-clause-managed : goal.returns-in-Ok-clause-managed
+returns-in-Ok-clause-managed g c =
+    let m = c.args.self.now.map in
+    let first = c.in-Ok.first.0 in
+    let n = c.args.count in
+    managed_after g.H.Held.blocks g.H.Held.room _ m.sizes (with_range first n m.sizes.managed m.plugged)
+    c.requires.managed.within c.set.ensures.sizes c.set.ensures.plugged
+    (numbers_rising (λ b. is_in b m.plugged || is_between first (first + n) b) m.sizes.managed)
+    (parted m.sizes m.plugged _ _ first n (merged_none m.sizes m.plugged _ _ _ c.requires.managed.unplugged c.requires.held c.merge.ensures.takes) c.part-back.ensures.keeps)
+    (omega (arith, c.requires.managed.roomy, c.merge.ensures.room, c.part-back.ensures.room))

@@ -1,0 +1,56 @@
+-- How a device answers a request: the response, the backing, and which blocks change hands.
+use Rattle.std.specs.Prelude.{◌≡◌, ◌↔◌, ℕ, Bool, true, false, ◌==◌, ◌&&◌, not, if◌then◌else◌, List, [], length, Option, None, Some}
+use Rattle.std.specs.List.{range_with_len}
+use Rattle.std.specs.Option.{option_map}
+use Rattle.evac_model.specs.declared.device.Request.{Request}
+use Rattle.evac_model.specs.declared.device.Request.TheVariants.{Plug, Unplug, UnplugAll, State}
+use Rattle.evac_model.specs.declared.device.Response.{Response}
+use Rattle.evac_model.specs.declared.device.Response.TheVariants.{Ack, Nack, Busy, Error}
+use Rattle.evac_model.specs.Geometry.{Sizes}
+use Rattle.evac_model.specs.DeviceAnswer.{DeviceState, block_at, is_good_range, are_plugged, device_answer}
+use Rattle.dma_listeners.specs.Count.{Rose, WhereTold}
+use Rattle.dma_listeners.specs.Calls.{Calls, after_call, IsListed}
+
+-- the plugged blocks that an UNPLUG of a good range that is all plugged, or an UNPLUG_ALL, names
+abbrev pub named_blocks : Sizes → (plugged : List ℕ) → Option Request → List ℕ
+named_blocks s plugged None = []
+named_blocks s plugged (Some (Plug addr count)) = []
+named_blocks s plugged (Some (Unplug addr count)) =
+    if is_good_range s addr count && are_plugged plugged (block_at s addr) count then range_with_len (block_at s addr) count else []
+named_blocks s plugged (Some UnplugAll) = plugged
+named_blocks s plugged (Some (State addr count)) = []
+
+-- whether the answer depends on the backing
+abbrev pub asks_backing : Sizes → DeviceState → Option Request → Bool
+asks_backing s d None = false
+asks_backing s d (Some (Plug addr count)) = false
+asks_backing s d (Some (Unplug addr count)) = is_good_range s addr count && (are_plugged d.plugged (block_at s addr) count && not d.migrating)
+asks_backing s d (Some UnplugAll) = not (length d.plugged == 0) && not d.migrating
+asks_backing s d (Some (State addr count)) = false
+
+-- The response is the device's answer, where `refused` says that the backing failed: only where its count of faults
+-- rose, and where its calls are told and it is asked, exactly where the call is a listed one.
+pub record IsAnswer (s : Sizes) (d : DeviceState) (request : Option Request) (before after : ℕ) (told : Option Calls) (response : Response) : Type 0 where
+  pub refused : Bool
+  pub answer : response ≡ device_answer s d refused request
+  pub cause : refused ≡ true → Rose before after
+  pub exact : asks_backing s d request ≡ true → WhereTold told (λ calls. (refused ≡ true) ↔ IsListed calls)
+
+-- the backing was asked once, or is as it was
+abbrev pub IsAsked : {B : Type 0} → (told : B → Option Calls) → Bool → (before after : B) → Type 0
+IsAsked told true before after = told after ≡ option_map after_call (told before)
+IsAsked told false before after = after ≡ before
+
+-- what comes back: the blocks plugged, none where blocks were unplugged, and else what came
+abbrev pub IsBack : {H : Type 0} → (blocks : H → List ℕ) → Sizes → Option Request → Response → (held back : H) → Type 0
+IsBack blocks s (Some (Plug addr count)) (Ack state) held back = blocks back ≡ range_with_len (block_at s addr) count
+IsBack blocks s (Some (Unplug addr count)) (Ack state) held back = blocks back ≡ []
+IsBack blocks s (Some UnplugAll) (Ack state) held back = blocks back ≡ []
+IsBack blocks s request response held back = back ≡ held
+
+-- the response acknowledges nothing
+abbrev pub IsRefusal : Response → Type 0
+IsRefusal (Ack state) = ⊥
+IsRefusal Nack = Unit {0}
+IsRefusal Busy = Unit {0}
+IsRefusal Error = Unit {0}

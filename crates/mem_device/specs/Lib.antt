@@ -1,0 +1,7 @@
+pub mod Hands
+pub mod HandState
+pub mod HandInside
+pub mod Answering
+pub mod Managed
+pub mod DeviceView
+pub mod DeviceInside
