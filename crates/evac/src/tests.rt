@@ -401,8 +401,7 @@ fn pinned_reply(ticket: u64) -> Reply {
 
 #[test]
 fn a_pinned_page_is_not_freed(rt: HostRuntime) -> Result<(), Fail> {
-    let lines =
-        b"machine 2 4 2 4 4 8\npage 0 movable 0\n1 x64 pin 0\n1 free 0\n1 x64 unpin 0\n";
+    let lines = b"machine 2 4 2 4 4 8\npage 0 movable 0\n1 x64 pin 0\n1 free 0\n1 x64 unpin 0\n";
     let report = report_of(rt.alloc(), lines)?;
     assert_eq!(rt; report.history.len(), 129);
     assert_eq!(rt; report.space_journal.len(), 0);

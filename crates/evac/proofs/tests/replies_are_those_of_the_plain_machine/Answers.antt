@@ -9,7 +9,7 @@ unfolding IsDistinct
 new-requires-2 g c =
     subst (λ (s : Sizes). AreStartPages s _) (sym c.in_ok-geometry.ensures.0)
     (record {
-      each = (record { page = omega arith; frame = omega arith; kind = tt }, tt);
+      each = (record { page = omega arith; frame = omega arith }, tt);
       pages = (tt, tt);
       frames = (tt, tt);
     })
