@@ -20,3 +20,6 @@ pub use dma_listeners::{Backing, Listener, Slate, SureSlate};
 pub use evac_model::{BlockNo, Config, DeviceAct, DeviceAction, Geometry, OutOfMemory, Response};
 pub use held::Held;
 pub use laws::sure_backing_is_never_busy;
+
+#[cfg(test)]
+mod tests;
