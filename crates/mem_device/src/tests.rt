@@ -12,6 +12,7 @@ use dma_listeners::Refused;
 use evac_model::{NumberList, Request, RequestBytes};
 use mem_codec::read_request;
 use std::alloc::{AllocError, Global};
+use std::process::Abort;
 use std::test::Fail;
 
 // A listener that refuses everything. No device tells it anything yet.
@@ -135,18 +136,33 @@ fn each_request_from_the_start(rt: HostRuntime) -> Result<(), Fail> {
     Ok(())
 }
 
+// A STATE of 4 blocks from 128 on, whose padding is set.
+const PADDED: [u8; 24] = [
+    3, 0, 255, 255, 255, 255, 255, 255, 128, 0, 0, 0, 0, 0, 0, 0, 4, 0, 255, 255, 255, 255, 255,
+    255,
+];
+
+/// The device answers that these bytes are no request.
+fn is_error(
+    rt: &impl Abort,
+    alloc: Global,
+    device: &mut SmallDevice,
+    bytes: &[u8],
+) -> Result<(), Fail> {
+    let got = ask(alloc, device, bytes)?;
+    assert_eq!(rt; got, Some(Response::Error));
+    Ok(())
+}
+
 #[test]
 fn other_bytes(rt: HostRuntime) -> Result<(), Fail> {
     let mut device = small(rt.alloc(), 3, &[])?;
-    let zeros = [0; 64];
-    for count in [0, 1, 23, 25, 64] {
-        let got = ask(rt.alloc(), &mut device, &zeros[..count])?;
-        assert_eq!(rt; got, Some(Response::Error), "{count} bytes");
-    }
-    let mut padded = request(3, 128, 4);
-    padded[2..8].fill(255);
-    padded[18..24].fill(255);
-    assert_eq!(rt; ask(rt.alloc(), &mut device, &padded)?, Some(MIXED));
+    is_error(&rt, rt.alloc(), &mut device, &[])?;
+    is_error(&rt, rt.alloc(), &mut device, &[0])?;
+    is_error(&rt, rt.alloc(), &mut device, &[0; 23])?;
+    is_error(&rt, rt.alloc(), &mut device, &[0; 25])?;
+    is_error(&rt, rt.alloc(), &mut device, &[0; 64])?;
+    assert_eq!(rt; ask(rt.alloc(), &mut device, &PADDED)?, Some(MIXED));
     assert_eq!(rt; device.journal().len(), 6);
     Ok(())
 }
