@@ -72,18 +72,17 @@ all_possible =
 no_test : (k who : ℕ) → k < 3 → (k == suc (suc (suc who))) ≡ false
 no_test k who l = grind (arith, nat_tests)
 
-made_by_all : (who : ℕ) → AreMadeBy (entries_of who history) (actions_of who journal_of_full)
-made_by_all zero = refl
-made_by_all (suc zero) =
+made_by_all : (owner : ℕ) → AreMadeBy (entries_of (suc owner) history) (actions_of (suc owner) journal_of_full)
+made_by_all zero =
     (lease_for 1 1 2 Movable ∷ [], return 1 1 ∷ [], refl, (record { 0 = 1 }, refl), (return 1 1 ∷ [], [], refl, (record { 0 = 1 }, refl), refl))
-made_by_all (suc (suc zero)) = (
+made_by_all (suc zero) = (
   return 2 1 ∷ [],
   lease_for 2 1 1 Movable ∷ [],
   refl,
   (record { 0 = 1 }, refl),
   ([], lease_for 2 1 1 Movable ∷ [], refl, refl, (lease_for 2 1 1 Movable ∷ [], [], refl, (record { 0 = 1 }, refl), refl)),
 )
-made_by_all (suc (suc (suc n))) = rw (no_test 1 n (omega arith), no_test 2 n (omega arith)) refl
+made_by_all (suc (suc n)) = rw (no_test 1 n (omega arith), no_test 2 n (omega arith)) refl
 
 -- both frames are out behind two actions
 none_is_free : (frame : ℕ) → ¬ IsLeasable full Movable (space_after full Movable (space_at_start full full_start) (return 2 1 ∷ lease_for 1 1 2 Movable ∷ [])) Movable frame

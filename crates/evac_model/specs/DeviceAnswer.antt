@@ -2,6 +2,7 @@
 -- causes is the project's own).
 use Rattle.std.specs.Prelude.{ℕ, ◌+◌, ◌-◌, ◌*◌, ◌/◌, ◌%◌, Bool, true, false, ◌==◌, ◌&&◌, ◌||◌, not, nat_le, nat_lt, if◌then◌else◌, List, [], ◌∷◌, length, take, drop, Option, None, Some}
 use Rattle.std.specs.List.{range_with_len, list_all}
+use Rattle.evac_model.specs.declared.device.Config.{Config}
 use Rattle.evac_model.specs.declared.device.Request.{Request}
 use Rattle.evac_model.specs.declared.device.Request.TheVariants as requests
 use Rattle.evac_model.specs.declared.device.Response.{Response}
@@ -10,7 +11,7 @@ use Rattle.evac_model.specs.declared.device_journal.DeviceAct.{DeviceAct}
 use Rattle.evac_model.specs.declared.device_journal.DeviceAct.TheVariants as acts
 use Rattle.evac_model.specs.declared.device_journal.DeviceAction.{DeviceAction}
 use Rattle.evac_model.specs.Geometry.{Sizes, block_bytes, address}
-use Rattle.evac_model.specs.Numbers.{is_in, with_range, without_range}
+use Rattle.evac_model.specs.Numbers.{is_in, numbers_where, with_range, without_range}
 
 -- the number that bytes make, the lowest first
 abbrev pub le_number : List ℕ → ℕ
@@ -123,6 +124,22 @@ after_act s d acts.Finish = record d { migrating = false }
 abbrev pub device_after : Sizes → DeviceState → List DeviceAction → DeviceState
 device_after s d [] = d
 device_after s d (a ∷ actions) = device_after s (after_act s d a.act) actions
+
+-- the blocks of the region that aren't plugged, rising
+abbrev pub unplugged_blocks : Sizes → (plugged : List ℕ) → List ℕ
+unplugged_blocks s plugged = numbers_where (λ b. not (is_in b plugged)) s.managed
+
+-- what the configuration says: node 0, and all of the region is usable
+abbrev pub config_of : Sizes → DeviceState → Config
+config_of s d = record {
+  block_size = block_bytes s;
+  node_id = 0;
+  addr = address s 0;
+  region_size = s.managed * block_bytes s;
+  usable_region_size = s.managed * block_bytes s;
+  plugged_size = length d.plugged * block_bytes s;
+  requested_size = d.requested;
+}
 
 -- the device at the start: the lowest blocks are plugged, and the host asks for as much
 abbrev pub device_at_start : Sizes → DeviceState

@@ -9,6 +9,7 @@ pub mod Numbers
 pub mod FreeRuns
 pub mod SpaceJournal
 pub mod DeviceAnswer
+pub mod HostCommands
 pub mod Examples
 pub mod Tables
 pub mod Answer

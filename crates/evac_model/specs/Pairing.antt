@@ -1,6 +1,6 @@
 -- How a history and a space journal go together: each caller's leases and returns are those of its calls, a
 -- lease is refused only where no frame is free, and at the end the frames out are those of the mapped pages.
-use Rattle.std.specs.Prelude.{◌≡◌, ◌≤◌, ◌⊎◌, ℕ, ◌==◌, ◌&&◌, not, nat_lt, List, [], ◌∷◌, ◌++◌, length, map, filter, take, drop, Contains, Option, Some}
+use Rattle.std.specs.Prelude.{◌≡◌, ◌≤◌, ◌⊎◌, ℕ, suc, ◌==◌, ◌&&◌, not, nat_lt, List, [], ◌∷◌, ◌++◌, length, map, filter, take, drop, Contains, Option, Some}
 use Rattle.std.specs.Option.{option_map}
 use Rattle.evac_model.specs.declared.names.BlockNo.{BlockNo}
 use Rattle.evac_model.specs.declared.names.FrameNo.{FrameNo}
@@ -95,11 +95,11 @@ pub record IsRefusedAt (s : Sizes) (online : Kind) (start : SpaceState) (journal
 
 -- ---- history and journal
 
--- The journal is possible, and each caller's actions are those of its entries. Where an alloc was answered
+-- The journal is possible, and each owner's actions are those of its entries. Where an alloc was answered
 -- that there is no frame, its lease was refused at the place that the answer names.
 pub record ArePaired (s : Sizes) (online : Kind) (start : SpaceState) (history : List Entry) (journal : List SpaceAction) : Type 0 where
   pub possible : IsPossibleJournal s online start journal
-  pub made : (who : ℕ) → AreMadeBy (entries_of who history) (actions_of who journal)
+  pub made : (owner : ℕ) → AreMadeBy (entries_of (suc owner) history) (actions_of (suc owner) journal)
   pub refused : (e : Entry) (kind : Kind) (at : ℕ) → Contains history e → e.call ≡ Alloc kind → e.reply ≡ NoFrame at → IsRefusedAt s online start journal (entries_of e.caller history) e kind at
 
 -- ---- the frames at the end

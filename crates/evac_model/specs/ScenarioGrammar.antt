@@ -16,7 +16,7 @@ use Rattle.evac_model.specs.Geometry.{IsWithinLimits, IsThereAtStart, frame_coun
 use Rattle.evac_model.specs.Calls.{IsCallFor}
 use Rattle.evac_model.specs.FreeRuns.{fits}
 use Rattle.evac_model.specs.Turns.{IsTurn, turn_count}
-use Rattle.evac_model.specs.ScenarioLines.{Line, MachineLine, OnlineLine, PageLine, TurnsLine, DrawLine, CallLine, times, turns_of, Spells, words, AsksUnknown, AsksLater}
+use Rattle.evac_model.specs.ScenarioLines.{Line, MachineLine, OnlineLine, PageLine, TurnsLine, DrawLine, CallLine, CommandLine, times, turns_of, Spells, words, AsksUnknown, AsksLater}
 
 -- A line is judged by what was accepted before it: nothing, or a scenario so far.
 
@@ -33,12 +33,14 @@ IsInOrder None (PageLine page) = ⊥
 IsInOrder None (TurnsLine turns) = ⊥
 IsInOrder None (DrawLine draw) = ⊥
 IsInOrder None (CallLine owner count page call) = ⊥
+IsInOrder None (CommandLine command) = ⊥
 IsInOrder (Some s) (MachineLine sizes) = ⊥
 IsInOrder (Some s) (OnlineLine kind) = s.online ≡ None
 IsInOrder (Some s) (PageLine page) = Unit {0}
 IsInOrder (Some s) (TurnsLine turns) = Unit {0}
 IsInOrder (Some s) (DrawLine draw) = s.drawn ≡ None
 IsInOrder (Some s) (CallLine owner count page call) = Unit {0}
+IsInOrder (Some s) (CommandLine command) = Unit {0}
 
 -- a call of an owner that the machine takes, made 1 to 2^20 times
 pub record IsCallInRange (s : Scenario) (owner count page : ℕ) (call : Call) : Type 0 where
@@ -55,6 +57,7 @@ IsInRange s (MachineLine sizes) = IsWithinLimits sizes
 IsInRange s (OnlineLine kind) = Unit {0}
 IsInRange s (TurnsLine turns) = AllByRecursion IsTurn (turns_of turns)
 IsInRange s (DrawLine draw) = draw.count ≤ 2 ^ 24
+IsInRange s (CommandLine command) = Unit {0}
 IsInRange None (PageLine p) = ⊥
 IsInRange None (CallLine owner count page call) = ⊥
 IsInRange (Some s) (PageLine p) = (p.page.0 < s.geometry.pages) × (p.frame.0 < frame_count s.geometry)
@@ -76,12 +79,13 @@ IsFree (Some s) (PageLine p) = IsFreeFor s p
 IsFree s (TurnsLine turns) = Unit {0}
 IsFree s (DrawLine draw) = Unit {0}
 IsFree s (CallLine owner count page call) = Unit {0}
+IsFree s (CommandLine command) = Unit {0}
 
 -- the calls of all scripts
 abbrev pub call_count : List (List (PageNo × Call)) → ℕ
 call_count scripts = sum_by length scripts
 
--- with this line there are at most 2^20 calls and 2^24 named turns
+-- with this line there are at most 2^20 calls, 2^24 named turns and 256 commands
 abbrev pub HasRoom : Option Scenario → Line → Type 0
 HasRoom s (MachineLine sizes) = Unit {0}
 HasRoom s (OnlineLine kind) = Unit {0}
@@ -89,8 +93,10 @@ HasRoom s (PageLine p) = Unit {0}
 HasRoom s (DrawLine draw) = Unit {0}
 HasRoom None (TurnsLine turns) = ⊥
 HasRoom None (CallLine owner count page call) = ⊥
+HasRoom None (CommandLine command) = ⊥
 HasRoom (Some s) (TurnsLine turns) = turn_count s.named + turn_count (turns_of turns) ≤ 2 ^ 24
 HasRoom (Some s) (CallLine owner count page call) = call_count s.owners + times count ≤ 2 ^ 20
+HasRoom (Some s) (CommandLine command) = length s.host + 1 ≤ 256
 
 -- the scripts with more calls of an owner, counted from 1
 abbrev pub with_calls : List (List (PageNo × Call)) → ℕ → List (PageNo × Call) → List (List (PageNo × Call))
@@ -102,12 +108,13 @@ with_calls (script ∷ scripts) (suc (suc k)) calls = script ∷ with_calls scri
 
 -- what a line that is accepted adds
 abbrev pub after_line : Option Scenario → Line → Option Scenario
-after_line None (MachineLine sizes) = Some (record { geometry = sizes; online = None; start = []; named = []; drawn = None; owners = [] })
+after_line None (MachineLine sizes) = Some (record { geometry = sizes; online = None; start = []; named = []; drawn = None; owners = []; host = [] })
 after_line None (OnlineLine kind) = None
 after_line None (PageLine p) = None
 after_line None (TurnsLine turns) = None
 after_line None (DrawLine draw) = None
 after_line None (CallLine owner count page call) = None
+after_line None (CommandLine command) = None
 after_line (Some s) (MachineLine sizes) = Some s
 after_line (Some s) (OnlineLine kind) = Some (record s { online = Some kind })
 after_line (Some s) (PageLine p) = Some (record s { start = s.start ++ p ∷ [] })
@@ -115,6 +122,7 @@ after_line (Some s) (TurnsLine turns) = Some (record s { named = s.named ++ turn
 after_line (Some s) (DrawLine draw) = Some (record s { drawn = Some draw })
 after_line (Some s) (CallLine owner count page call) =
     Some (record s { owners = with_calls s.owners owner (replicate (times count) (record { 0 = page }, call)) })
+after_line (Some s) (CommandLine command) = Some (record s { host = s.host ++ command ∷ [] })
 
 -- the text spells this line, and its first words are ones that are read
 pub record Reads (text : List ℕ) (line : Line) : Type 0 where

@@ -1,17 +1,22 @@
 -- The lines of a scenario: what each is spelled as, and what its first words say.
-use Rattle.std.specs.Prelude.{◌≡◌, ◌≢◌, ℕ, ◌^◌, ◌<◌, ◌≤◌, ◌⊎◌, ◌==◌, List, [], ◌∷◌, ◌++◌, length, map, codes, Contains, Option, None, Some, IfSome}
+use Rattle.std.specs.Prelude.{◌≡◌, ◌≢◌, true, ℕ, ◌^◌, ◌<◌, ◌≤◌, ◌⊎◌, ◌==◌, List, [], ◌∷◌, ◌++◌, length, map, codes, Contains, Option, None, Some, IfSome}
 use Rattle.std.specs.List.{AllByRecursion, slice_split}
 use Rattle.std.specs.Fmt.{decimal}
+use Rattle.hex.specs.Hex.{encode_lower}
 use Rattle.evac_model.specs.declared.call.Call.{Call}
 use Rattle.evac_model.specs.declared.call.Call.TheVariants.{Alloc, Free, Read, Write, Add, Pin, Unpin}
+use Rattle.evac_model.specs.declared.host.HostCommand.{HostCommand}
+use Rattle.evac_model.specs.declared.host.HostCommand.TheVariants as commands
 use Rattle.evac_model.specs.declared.names.Kind.{Kind}
 use Rattle.evac_model.specs.declared.scenario.StartPage.{StartPage}
 use Rattle.evac_model.specs.declared.scenario.Actor.{Actor}
 use Rattle.evac_model.specs.declared.scenario.Actor.TheVariants.{Owner, Host, Scanner}
 use Rattle.evac_model.specs.declared.scenario.Turn.{Turn}
 use Rattle.evac_model.specs.declared.scenario.Drawn.{Drawn}
+use Rattle.evac_model.specs.DeviceAnswer.{request_in}
 use Rattle.evac_model.specs.Geometry.{Sizes}
-use Rattle.evac_model.specs.Spelling.{kind_word, online_word, call_words, turn_word, count_words, spaced}
+use Rattle.evac_model.specs.HostCommands.{unplugs}
+use Rattle.evac_model.specs.Spelling.{kind_word, online_word, call_words, turn_word, count_words, command_words, spaced}
 
 -- turns of an actor as a line names them: their count may be written, and else is one
 pub record NamedTurn : Type 0 where
@@ -26,6 +31,7 @@ pub data Line : Type 0 where
   TurnsLine : (turns : List NamedTurn) → Line
   DrawLine : (draw : Drawn) → Line
   CallLine : (owner : ℕ) (count : Option ℕ) (page : ℕ) (call : Call) → Line
+  CommandLine : (command : HostCommand) → Line
 
 -- what a count stands for
 abbrev pub times : Option ℕ → ℕ
@@ -43,6 +49,7 @@ words_of (PageLine p) = codes "page" ∷ decimal p.page.0 ∷ kind_word p.kind �
 words_of (TurnsLine turns) = codes "turns" ∷ map (λ t. turn_word t.actor t.count) turns
 words_of (DrawLine d) = codes "draw" ∷ decimal d.number ∷ decimal d.count ∷ []
 words_of (CallLine owner count page call) = decimal owner ∷ count_words count ++ call_words page call
+words_of (CommandLine command) = codes "host" ∷ command_words command
 
 -- a number of 64 bits
 abbrev pub IsNumber : ℕ → Type 0
@@ -68,7 +75,12 @@ HasActorNumber Scanner = Unit {0}
 abbrev pub HasTurnNumbers : NamedTurn → Type 0
 HasTurnNumbers t = HasActorNumber t.actor × IfSome t.count IsNumber
 
--- each number is one of 64 bits, and a line of turns names some
+-- a request has 1 to 64 bytes
+abbrev pub HasBytes : HostCommand → Type 0
+HasBytes (commands.Request bytes) = (1 ≤ length bytes) × (length bytes ≤ 64) × AllByRecursion (λ b. b < 256) bytes
+HasBytes commands.Config = Unit {0}
+
+-- each number is one of 64 bits, a line of turns names some, and a request has some bytes
 abbrev pub Fits : Line → Type 0
 Fits (MachineLine s) = AllByRecursion IsNumber (s.cells ∷ s.block ∷ s.boot ∷ s.managed ∷ s.plugged ∷ s.pages ∷ [])
 Fits (OnlineLine kind) = Unit {0}
@@ -76,6 +88,7 @@ Fits (PageLine p) = IsNumber p.page.0 × IsNumber p.frame.0
 Fits (TurnsLine turns) = (1 ≤ length turns) × AllByRecursion HasTurnNumbers turns
 Fits (DrawLine d) = IsNumber d.number × IsNumber d.count
 Fits (CallLine owner count page call) = IsNumber owner × IfSome count IsNumber × IsNumber page × HasNumbers call
+Fits (CommandLine command) = HasBytes command
 
 -- the text is the one spelling of the line
 pub record Spells (text : List ℕ) (line : Line) : Type 0 where
@@ -98,7 +111,17 @@ command_names = codes "resize" ∷ codes "request" ∷ codes "config" ∷ codes 
 
 -- those that this program doesn't read yet
 abbrev pub later_lines : List (List ℕ)
-later_lines = codes "fail" ∷ codes "host" ∷ []
+later_lines = codes "fail" ∷ []
+
+abbrev pub later_commands : List (List ℕ)
+later_commands = codes "resize" ∷ codes "join" ∷ codes "leave" ∷ codes "migrate" ∷ codes "cancel" ∷ codes "finish" ∷ []
+
+-- the words of a request that unplugs blocks, which isn't made yet
+pub record IsLaterRequest (words : List (List ℕ)) : Type 0 where
+  pub bytes : List ℕ
+  pub spelled : words ≡ codes "request" ∷ encode_lower bytes ∷ []
+  pub fits : AllByRecursion (λ b. b < 256) bytes
+  pub later : unplugs (request_in bytes) ≡ true
 
 -- an owner's number: the decimal text of a number
 abbrev pub IsOwnerWord : List ℕ → Type 0
@@ -132,4 +155,5 @@ AsksUnknown (word ∷ rest) =
 -- what the line asks for isn't read yet
 abbrev pub AsksLater : List (List ℕ) → Type 0
 AsksLater [] = ⊥
-AsksLater (word ∷ rest) = Contains later_lines word
+AsksLater (word ∷ rest) =
+    Contains later_lines word ⊎ ((word ≡ codes "host") × (First (Contains later_commands) rest ⊎ IsLaterRequest rest))

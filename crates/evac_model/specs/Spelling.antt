@@ -1,7 +1,10 @@
--- How calls are written, in scenarios and in reports: words with one space between, numbers in decimal.
+-- How calls and commands are written, in scenarios and in reports: words with one space between, numbers in decimal.
 use Rattle.std.specs.Prelude.{ℕ, List, [], ◌∷◌, ◌++◌, map, codes, Option, None, Some}
 use Rattle.std.specs.List.{join_with_byte}
 use Rattle.std.specs.Fmt.{decimal}
+use Rattle.hex.specs.Hex.{encode_lower}
+use Rattle.evac_model.specs.declared.host.HostCommand.{HostCommand}
+use Rattle.evac_model.specs.declared.host.HostCommand.TheVariants as commands
 use Rattle.evac_model.specs.declared.names.Kind.{Kind}
 use Rattle.evac_model.specs.declared.names.Kind.TheVariants.{Movable, Unmovable}
 use Rattle.evac_model.specs.declared.call.Call.{Call}
@@ -43,6 +46,11 @@ turn_word actor (Some n) = actor_word actor ++ (codes "*" ++ decimal n)
 abbrev pub count_words : Option ℕ → List (List ℕ)
 count_words None = []
 count_words (Some n) = (codes "x" ++ decimal n) ∷ []
+
+-- a command of the host; the bytes of a request are in lower-case hexadecimal
+abbrev pub command_words : HostCommand → List (List ℕ)
+command_words (commands.Request bytes) = codes "request" ∷ encode_lower bytes ∷ []
+command_words commands.Config = codes "config" ∷ []
 
 -- the words, with one space between
 abbrev pub spaced : List (List ℕ) → List ℕ

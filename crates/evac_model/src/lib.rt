@@ -8,6 +8,7 @@ mod device;
 mod device_journal;
 mod entry;
 mod geometry;
+mod host;
 mod laws;
 mod list;
 mod names;
@@ -24,6 +25,7 @@ pub use device::{Config, Request, Response, STATE_MIXED, STATE_PLUGGED, STATE_UN
 pub use device_journal::{DeviceAct, DeviceAction, Notice, Notices, Told};
 pub use entry::{Entry, EntryList};
 pub use geometry::{Geometry, GeometryFault};
+pub use host::{CommandList, HostCommand, HostLine, HostResult, HostRun, HostRunList};
 pub use laws::{
     answers_of_a_small_machine, is_in_contains, lease_counts_for_alloc_alone,
     leases_of_a_small_machine, legal_push, legal_tickets, numbers_that_pass, pages_stay_in_size,

@@ -2,6 +2,7 @@
 
 use crate::call::Call;
 use crate::geometry::Geometry;
+use crate::host::CommandList;
 use crate::list::Listed;
 use crate::names::{FrameNo, Kind, PageNo};
 
@@ -73,6 +74,8 @@ pub struct Scenario {
     pub drawn: Option<Drawn>,
     /// The owners' scripts.
     pub owners: ScriptList,
+    /// The host's commands.
+    pub host: CommandList,
 }
 
 /// Why a line isn't accepted: the first of these that it meets, in this order.

@@ -16,7 +16,7 @@ use Rattle.block_map.specs.Blocks.{state_told}
 use Rattle.block_map.proofs.States.{all_plugged, none_plugged}
 use Rattle.dma_listeners.specs.BlockLists.{united, without_blocks}
 use Rattle.dma_listeners.specs.Calls.{Calls}
-use Rattle.mem_device.specs.Hands.{unplugged_blocks}
+use Rattle.evac_model.specs.DeviceAnswer.{unplugged_blocks}
 use Rattle.mem_device.specs.Answering.{IsAnswer, asks_backing, named_blocks}
 use Rattle.mem_device.specs.Managed.{IsManaged}
 use Rattle.mem_device.specs.declared.memory.Memory.{Memory}

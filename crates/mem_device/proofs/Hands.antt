@@ -7,7 +7,7 @@ use Rattle.evac_model.specs.Numbers.{is_in, is_between, numbers_where, with_rang
 use Rattle.evac_model.proofs.Ranges.{between_inside, between_below, between_above}
 use Rattle.evac_model.proofs.Numbers.{numbers_agree, is_in-numbers_where, is_in-numbers_where_past, numbers_where-none}
 use Rattle.dma_listeners.specs.BlockLists.{united, without_blocks}
-use Rattle.mem_device.specs.Hands.{unplugged_blocks}
+use Rattle.evac_model.specs.DeviceAnswer.{unplugged_blocks}
 use Rattle.mem_device.proofs.Blocks.{is_in-range, united_below, without-numbers_where, numbers-range, rising_past, range_past}
 
 or_not : (p q : Bool) → (not p || q) ≡ not (p && not q)

@@ -1,4 +1,3 @@
-pub mod Hands
 pub mod HandState
 pub mod HandInside
 pub mod Answering

@@ -7,7 +7,7 @@ use Rattle.evac_model.specs.declared.device.Response.TheVariants.{Ack}
 use Rattle.evac_model.specs.Geometry.{Sizes, IsWithinLimits}
 use Rattle.evac_model.specs.Numbers.{IsRisingBelow}
 use Rattle.evac_model.specs.DeviceAnswer.{DeviceState, unplug_answer}
-use Rattle.mem_device.specs.Hands.{unplugged_blocks}
+use Rattle.evac_model.specs.DeviceAnswer.{unplugged_blocks}
 use Rattle.mem_device.specs.Answering.{asks_backing}
 use Rattle.mem_device.specs.declared.memory.Memory.{Memory}
 

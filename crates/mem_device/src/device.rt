@@ -40,10 +40,11 @@ impl<L, B, H: Held> Model for Device<L, B, H> {
 
 impl<L: Listener, B: Backing, H: Held> Device<L, B, H> {
     ghost use Rattle.std.specs.Prelude.{◌≡◌, ◌≤◌, ◌++◌, ◌∷◌, [], ◌↔◌, length, Err, IfOk, IfErr, OnOk, OnErr};
-    ghost use Rattle.evac_model.specs.DeviceAnswer.{request_in};
+    ghost use Rattle.evac_model.specs.DeviceAnswer.{request_in, config_of, unplugged_blocks};
+    ghost use Rattle.evac_model.specs.HostCommands.{request_action};
     ghost use Rattle.mem_device.specs.Answering.{IsAnswer, IsAsked, IsBack, asks_backing, named_blocks};
-    ghost use Rattle.mem_device.specs.Hands.{unplugged_blocks};
-    ghost use Rattle.mem_device.specs.DeviceView.{state_of, request_action, requested_action, config_of, IsBadSize};
+    ghost use Rattle.evac_model.specs.DeviceAnswer.{unplugged_blocks};
+    ghost use Rattle.mem_device.specs.DeviceView.{state_of, requested_action, IsBadSize};
 
     /// Answers a request of at most 64 bytes (Virtio 1.2, 5.15.6). For an UNPLUG of a good range that
     /// is all plugged and for an UNPLUG_ALL, `held` has exactly the plugged blocks named, and else no
@@ -152,7 +153,7 @@ impl<L: Listener, B: Backing, H: Held> Device<L, B, H> {
 impl<L: Listener + Drop, B: Backing + Drop, H: Held + Drop> Device<L, B, H> {
     ghost use Rattle.std.specs.Prelude.{◌≡◌, ◌≤◌, ◌-◌, [], IfOk};
     ghost use Rattle.std.specs.List.{range_with_len};
-    ghost use Rattle.mem_device.specs.Hands.{unplugged_blocks};
+    ghost use Rattle.evac_model.specs.DeviceAnswer.{unplugged_blocks};
     ghost use Rattle.mem_device.specs.DeviceView.{state_of};
 
     /// The device of a machine at its start: the lowest blocks are plugged, and as much is requested.

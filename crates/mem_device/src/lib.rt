@@ -20,6 +20,7 @@ pub use dma_listeners::{Backing, Listener, Slate, SureSlate};
 pub use evac_model::{BlockNo, Config, DeviceAct, DeviceAction, Geometry, OutOfMemory, Response};
 pub use held::Held;
 pub use laws::sure_backing_is_never_busy;
+pub use range::range_at;
 
 #[cfg(test)]
 mod tests;

@@ -9,7 +9,7 @@ use evac_model::{BlockNo, Geometry, STATE_PLUGGED, STATE_UNPLUGGED};
 
 /// The first block of a range, if the range is good: it begins at a block, has one at least, and all
 /// of them are in the region.
-pub(crate) fn range_at(g: &Geometry, addr: u64, count: u16) -> Option<BlockNo>
+pub fn range_at(g: &Geometry, addr: u64, count: u16) -> Option<BlockNo>
     ensures good { is_some result ≡ is_good_range g.now addr count }
     ensures first { IfSome result (λ b. b.0 ≡ block_at g.now addr) }
     ensures inside { IfSome result (λ b. b.0 + count ≤ g.now.managed) }

@@ -1,6 +1,6 @@
 use Rattle.std.proofs.Common.{sym, ap, ◌∙◌}
 use Rattle.evac_model.specs.DeviceAnswer.{DeviceState, request_in}
-use Rattle.mem_device.specs.Hands.{unplugged_blocks}
+use Rattle.evac_model.specs.DeviceAnswer.{unplugged_blocks}
 use Rattle.mem_device.specs.Managed.{state_in}
 use Rattle.mem_device.proofs.Journals.{answered_state, read_found}
 use Rattle.mem_device.proofs.device.Device.answer.Goals as goal
