@@ -27,4 +27,5 @@ abbrev pub IsStorableAction : Action → Type 0
 IsStorableAction (actions.Step step) = IsStorable step
 IsStorableAction (actions.Move step) = ⊤
 IsStorableAction (actions.Space call) = ⊤
+IsStorableAction (actions.Device call) = ⊤
 IsStorableAction actions.Ended = ⊤

@@ -5,3 +5,5 @@ pub mod Counts
 pub mod Fits
 pub mod OwnerInside
 pub mod CallParts
+pub mod Hosts
+pub mod HostInside

@@ -9,11 +9,11 @@ use Rattle.core_state.specs.declared.step.Step.TheVariants.{Take, Draw, Load, St
 use Rattle.core_actors.specs.declared.action.Action.{Action}
 use Rattle.core_actors.specs.declared.action.Action.TheVariants as actions
 use Rattle.core_actors.specs.declared.action.Heard.{Heard}
-use Rattle.core_actors.specs.declared.action.Heard.TheVariants.{Start, Word, Nothing, Leased, NoFrame}
+use Rattle.core_actors.specs.declared.action.Heard.TheVariants.{Start, Word, Nothing, Leased, NoFrame, Device}
 use Rattle.core_actors.specs.declared.action.LeaseSeen.{LeaseSeen}
 use Rattle.core_actors.specs.declared.action.LeaseSeen.TheVariants.{NotAsked, Got, Refused}
 use Rattle.core_actors.specs.declared.action.SpaceCall.{SpaceCall}
-use Rattle.core_actors.specs.declared.action.SpaceCall.TheVariants.{Lease, Return}
+use Rattle.core_actors.specs.declared.action.SpaceCall.TheVariants.{Lease, Return, Online}
 use Rattle.core_actors.specs.CallSteps.{call_actions, frame_back}
 
 -- The owner's number, the cells of a page, and the calls that it hasn't ended, in order. The first of them is
@@ -81,6 +81,7 @@ word_in (Word word) = word
 word_in Nothing = 0
 word_in (Leased frame) = 0
 word_in (NoFrame at) = 0
+word_in (Device heard) = 0
 
 -- what a lease gave
 abbrev pub lease_in : Heard → LeaseSeen
@@ -89,6 +90,7 @@ lease_in (Word word) = NotAsked
 lease_in Nothing = NotAsked
 lease_in (Leased frame) = Got frame
 lease_in (NoFrame at) = Refused at
+lease_in (Device heard) = NotAsked
 
 -- The owner after a step that found the word. A take that finds the page taken is made again.
 abbrev pub after_step : OwnerState → ℕ → Step → OwnerState
@@ -102,12 +104,14 @@ after_step a word (Release end) = call_ended a
 abbrev pub after_space : OwnerState → Heard → SpaceCall → OwnerState
 after_space a heard (Lease page kind) = one_made (record a { lease = lease_in heard })
 after_space a heard (Return frame) = record a { back = None }
+after_space a heard (Online block) = a
 
--- the owner after an action of which it heard
+-- the owner after an action of which it heard; it puts no block online, and asks the device for nothing
 abbrev pub after_action : OwnerState → Heard → Action → OwnerState
 after_action a heard (actions.Step step) = after_step a (word_in heard) step
 after_action a heard (actions.Move step) = one_made a
 after_action a heard (actions.Space call) = after_space a heard call
+after_action a heard (actions.Device call) = a
 after_action a heard actions.Ended = a
 
 -- the owner after its next action; one that has ended stays so

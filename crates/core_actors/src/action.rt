@@ -1,7 +1,7 @@
 //! What an actor hears and what it does.
 
 use core_state::{MoveStep, Step};
-use evac_model::{FrameNo, Kind, PageNo};
+use evac_model::{BlockNo, Config, FrameNo, Kind, PageNo, RequestBytes, Response};
 
 /// What the last action of an actor gave.
 #[derive(Clone, Copy, Debug, PartialEq, Eq)]
@@ -16,9 +16,20 @@ pub enum Heard {
     Leased(FrameNo),
     /// No frame was leased; the length of the space journal then.
     NoFrame(u64),
+    /// What the memory device gave.
+    Device(DeviceHeard),
 }
 
-/// What an actor asks of the frame space. A frame changes hands with it.
+/// What a memory device gave.
+#[derive(Clone, Copy, Debug, PartialEq, Eq)]
+pub enum DeviceHeard {
+    /// Its answer to a request.
+    Answered(Response),
+    /// Its configuration.
+    Config(Config),
+}
+
+/// What an actor asks of the frame space. Frames change hands with it.
 #[derive(Clone, Copy, Debug, PartialEq, Eq)]
 pub enum SpaceCall {
     /// A frame for a page of that kind.
@@ -33,6 +44,24 @@ pub enum SpaceCall {
         /// The frame.
         frame: FrameNo,
     },
+    /// The frames of an offline block are given back, and are leased again from then on.
+    Online {
+        /// The block.
+        block: BlockNo,
+    },
+}
+
+/// What an actor asks of the memory device.
+#[derive(Clone, Copy, Debug, PartialEq, Eq)]
+pub enum DeviceCall {
+    /// An answer to these bytes, which are a request or not. The frames of blocks that are plugged
+    /// change hands with it.
+    Request {
+        /// The bytes.
+        bytes: RequestBytes,
+    },
+    /// Its configuration.
+    Config,
 }
 
 /// What the lease of an alloc gave.
@@ -76,6 +105,8 @@ pub enum Action {
     Move(MoveStep),
     /// It asks the frame space.
     Space(SpaceCall),
+    /// It asks the memory device.
+    Device(DeviceCall),
     /// It has made its last action.
     Ended,
 }

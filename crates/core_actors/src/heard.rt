@@ -2,8 +2,10 @@
 
 ghost use Rattle.std.specs.Prelude.{◌≡◌};
 ghost use Rattle.core_actors.specs.Owners.{word_in, lease_in};
+ghost use Rattle.core_actors.specs.Hosts.{result_in};
 
-use crate::action::{Heard, LeaseSeen};
+use crate::action::{DeviceHeard, Heard, LeaseSeen};
+use evac_model::{HostResult, Response};
 
 /// The word that was found; 0 where none was.
 pub(crate) fn word_in(heard: &Heard) -> u64
@@ -11,7 +13,8 @@ pub(crate) fn word_in(heard: &Heard) -> u64
 {
     match heard {
         Heard::Word(word) => *word,
-        Heard::Start | Heard::Nothing | Heard::Leased(_) | Heard::NoFrame(_) => 0,
+        Heard::Start | Heard::Nothing | Heard::Leased(_) | Heard::NoFrame(_) | Heard::Device(_) =>
+            0,
     }
 }
 
@@ -22,6 +25,18 @@ pub(crate) fn lease_in(heard: &Heard) -> LeaseSeen
     match heard {
         Heard::Leased(frame) => LeaseSeen::Got { frame: *frame },
         Heard::NoFrame(at) => LeaseSeen::Refused { at: *at },
-        Heard::Start | Heard::Word(_) | Heard::Nothing => LeaseSeen::NotAsked,
+        Heard::Start | Heard::Word(_) | Heard::Nothing | Heard::Device(_) => LeaseSeen::NotAsked,
+    }
+}
+
+/// What the device gave; an error, where it wasn't asked.
+pub(crate) fn result_in(heard: &Heard) -> HostResult
+    ensures { result ≡ result_in heard.now }
+{
+    match heard {
+        Heard::Device(DeviceHeard::Answered(response)) => HostResult::Answered(*response),
+        Heard::Device(DeviceHeard::Config(config)) => HostResult::Config(*config),
+        Heard::Start | Heard::Word(_) | Heard::Nothing | Heard::Leased(_) | Heard::NoFrame(_) =>
+            HostResult::Answered(Response::Error),
     }
 }

@@ -30,6 +30,8 @@ ghost use Rattle.core_actors.specs.Owners.{OwnerState, owner_at_start, owner_end
 ghost use Rattle.core_actors.specs.Actions.{owner_heard, heard_by, ends_with_next, IsStorable};
 ghost use Rattle.core_actors.specs.Counts.{actions_left, IsUnderWay, FindsTaken};
 ghost use Rattle.core_actors.specs.Fits.{Fits};
+ghost use Rattle.evac_model.specs.declared.host.HostCommand.{HostCommand};
+ghost use Rattle.core_actors.specs.Hosts.{HostState, host_at_start, host_ended, host_after, host_actions_left, IsHostUnderWay};
 
 /// The next action of an owner that hasn't ended is allowed, where its seat's view fits its place in the
 /// script, and each page is what its calls answer. Where it asks the frame space, its seat is at rest; a
@@ -91,4 +93,19 @@ pub fn ended_owners_have_their_entries()
 pub fn ends_are_known_before_the_last_action()
     ensures start { (owner cells : ℕ) (script : List (PageNo × Call)) → ends_with_next (owner_at_start owner cells script) ≡ owner_ended (owner_at_start owner cells script) }
     ensures action { (a : OwnerState) (heard : Heard) → owner_ended (owner_after a heard) ≡ ends_with_next a }
+{}
+
+/// A host is under way at the start, and after each of its actions, whatever that gives: blocks are to be put
+/// online just where its command has a result, and they are managed blocks.
+pub fn hosts_stay_under_way()
+    ensures start { (s : Sizes) (commands : List HostCommand) → IsHostUnderWay (host_at_start s commands) }
+    ensures action { (h : HostState) (heard : Heard) → IsHostUnderWay h → IsHostUnderWay (host_after h heard) }
+{}
+
+/// A host makes at most so many actions as it has commands, times the managed blocks and one more. Each
+/// action leaves fewer. None are left exactly where the host has ended.
+pub fn hosts_end_after_their_actions()
+    ensures most { (s : Sizes) (commands : List HostCommand) → host_actions_left (host_at_start s commands) ≡ length commands * (s.managed + 1) }
+    ensures fewer { (h : HostState) (heard : Heard) → IsHostUnderWay h → host_ended h ≡ false → host_actions_left (host_after h heard) < host_actions_left h }
+    ensures ended { (h : HostState) → IsHostUnderWay h → (host_actions_left h ≡ 0) ↔ (host_ended h ≡ true) }
 {}

@@ -1,18 +1,21 @@
-//! The owners of a run. Each says what it does next, from what its earlier actions gave; it does nothing
-//! itself.
+//! The actors of a run: owners and the host. Each says what it does next, from what its earlier actions
+//! gave; it does nothing itself.
 #![tactic(auto)]
 
 mod action;
 mod call_action;
 mod heard;
+mod host;
 mod laws;
 mod owner;
 
-pub use action::{Action, Heard, LeaseSeen, Others, SpaceCall};
+pub use action::{Action, DeviceCall, DeviceHeard, Heard, LeaseSeen, Others, SpaceCall};
+pub use host::{Host, plugged_by};
 pub use laws::{
     ended_owners_have_their_entries, ends_are_known_before_the_last_action,
-    owners_end_after_their_actions, owners_fit_after_their_actions, owners_fit_at_the_opening,
-    owners_make_allowed_actions, owners_stay_under_way,
+    hosts_end_after_their_actions, hosts_stay_under_way, owners_end_after_their_actions,
+    owners_fit_after_their_actions, owners_fit_at_the_opening, owners_make_allowed_actions,
+    owners_stay_under_way,
 };
 pub use owner::Owner;
 

@@ -160,6 +160,8 @@ impl Owner {
                 self.made += 1;
             }
             SpaceCall::Return { .. } => self.back = None,
+            // no call of an owner asks for it
+            SpaceCall::Online { .. } => {}
         }
     }
 
@@ -172,6 +174,8 @@ impl Owner {
             Action::Step(step) => self.hear_step(step, word_in(heard)),
             Action::Move(_) => self.made += 1,
             Action::Space(call) => self.hear_space(call, heard),
+            // no call of an owner asks for it
+            Action::Device(_) => {}
             Action::Ended => {}
         }
     }
