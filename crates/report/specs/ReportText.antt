@@ -1,15 +1,28 @@
--- The report's text: a line for each call and for each action of the frame space, the plugged blocks, a line
--- for each mapped page, and `end`.
-use Rattle.std.specs.Prelude.{ℕ, ◌+◌, ◌==◌, if◌then◌else◌, List, [], ◌∷◌, ◌++◌, map, codes}
-use Rattle.std.specs.List.{flat_map}
+-- The report's text: a line for each call, for each command of the host, for each action of the frame space, and
+-- for each action of the memory device and each notice of it; the plugged blocks, a line for each mapped page, and
+-- `end`.
+use Rattle.std.specs.Prelude.{ℕ, ◌+◌, ◌==◌, if◌then◌else◌, List, [], ◌∷◌, ◌++◌, map, codes, Option, None, Some}
+use Rattle.std.specs.List.{AllByRecursion, flat_map}
 use Rattle.std.specs.Fmt.{decimal}
+use Rattle.hex.specs.Hex.{encode_lower}
+use Rattle.mem_codec.specs.ResponseBytes.{response_bytes, HasState}
+use Rattle.mem_codec.specs.ConfigBytes.{config_bytes}
+use Rattle.evac_model.specs.declared.device_journal.DeviceAct.{DeviceAct}
+use Rattle.evac_model.specs.declared.device_journal.DeviceAct.TheVariants.{Requested, Request, Join, JoinRefused, Leave, Begin, Cancel, Finish}
+use Rattle.evac_model.specs.declared.device_journal.DeviceAction.{DeviceAction}
+use Rattle.evac_model.specs.declared.device_journal.Notice.{Notice}
+use Rattle.evac_model.specs.declared.device_journal.Told.{Told}
+use Rattle.evac_model.specs.declared.device_journal.Told.TheVariants.{PopulateOk, PopulateRefused, Discard}
+use Rattle.evac_model.specs.declared.host.HostResult.{HostResult}
+use Rattle.evac_model.specs.declared.host.HostResult.TheVariants as results
+use Rattle.evac_model.specs.declared.host.HostRun.{HostRun}
 use Rattle.evac_model.specs.declared.names.BlockNo.{BlockNo}
 use Rattle.evac_model.specs.declared.entry.Entry.{Entry}
 use Rattle.evac_model.specs.declared.reply.Reply.{Reply}
 use Rattle.evac_model.specs.declared.reply.Reply.TheVariants.{Done, Values, Old, Mapped, NotMapped, Pinned, PinLimit, NotPinned, NoFrame}
 use Rattle.evac_model.specs.declared.space.SpaceAction.{SpaceAction}
 use Rattle.evac_model.specs.declared.space.SpaceAction.TheVariants.{Lease, MoveLease, Return, Isolate, Undo, Offline, Online}
-use Rattle.evac_model.specs.Spelling.{kind_word, call_words}
+use Rattle.evac_model.specs.Spelling.{kind_word, call_words, command_words}
 use Rattle.report.specs.declared.report.FinalPage.{FinalPage}
 use Rattle.report.specs.declared.report.Report.{Report}
 
@@ -37,6 +50,15 @@ abbrev pub entry_text : Entry → List ℕ
 entry_text e =
     line (codes "call") (map decimal (e.ticket ∷ e.caller ∷ e.call_no ∷ []) ++ call_words e.page.0 e.call ++ codes "=" ∷ reply_words e.reply)
 
+-- what a command gave: the bytes of the device's answer or of its configuration, in hexadecimal
+abbrev pub result_words : HostResult → List (List ℕ)
+result_words (results.Answered response) = encode_lower (response_bytes response) ∷ []
+result_words (results.Config config) = encode_lower (config_bytes config) ∷ []
+
+-- a command of the host: its number, the command as a scenario spells it, and what it gave
+abbrev pub host_text : HostRun → List ℕ
+host_text r = line (codes "host") (decimal r.line.no ∷ command_words r.command ++ codes "=" ∷ result_words r.line.result)
+
 -- an action of the frame space; the driver's lease of a target is one for a move
 abbrev pub action_words : SpaceAction → List (List ℕ)
 action_words (Lease who frame page kind) =
@@ -54,6 +76,39 @@ abbrev pub space_text : ℕ → List SpaceAction → List ℕ
 space_text place [] = []
 space_text place (a ∷ actions) = line (codes "space") (decimal place ∷ action_words a) ++ space_text (place + 1) actions
 
+-- an action of the memory device
+abbrev pub act_words : DeviceAct → List (List ℕ)
+act_words (Requested size) = codes "requested" ∷ decimal size ∷ []
+act_words (Request bytes response) = codes "request" ∷ encode_lower bytes ∷ encode_lower (response_bytes response) ∷ []
+act_words (Join key) = codes "join" ∷ decimal key ∷ []
+act_words JoinRefused = codes "join" ∷ codes "refused" ∷ []
+act_words (Leave key) = codes "leave" ∷ decimal key ∷ []
+act_words Begin = codes "begin" ∷ []
+act_words Cancel = codes "cancel" ∷ []
+act_words Finish = codes "finish" ∷ []
+
+-- a listener that was about to join has no key
+abbrev pub key_word : Option ℕ → List ℕ
+key_word None = codes "new"
+key_word (Some key) = decimal key
+
+-- what a listener was told of a range of blocks, given by its two numbers
+abbrev pub told_words : (range : List (List ℕ)) → Told → List (List ℕ)
+told_words range PopulateOk = codes "populate" ∷ range ++ codes "ok" ∷ []
+told_words range PopulateRefused = codes "populate" ∷ range ++ codes "refused" ∷ []
+told_words range Discard = codes "discard" ∷ range
+
+-- a notice of the action with this place
+abbrev pub notice_text : (place : ℕ) → Notice → List ℕ
+notice_text place x =
+    line (codes "notice") (decimal place ∷ key_word x.key ∷ told_words (decimal x.first.0 ∷ decimal x.n ∷ []) x.told)
+
+-- the actions of a device journal, each with its place and behind it its notices, where the first has this place
+abbrev pub device_text : (place : ℕ) → List DeviceAction → List ℕ
+device_text place [] = []
+device_text place (a ∷ actions) =
+    line (codes "device") (decimal place ∷ act_words a.act) ++ flat_map (notice_text place) a.notices ++ device_text (place + 1) actions
+
 abbrev pub plugged_text : List BlockNo → List ℕ
 plugged_text blocks = line (codes "plugged") (map (λ b. decimal b.0) blocks)
 
@@ -68,4 +123,21 @@ page_text p = line (codes "page") (decimal p.page.0 ∷ kind_word p.kind ∷ dec
 
 abbrev pub report_text : Report → List ℕ
 report_text r =
-    flat_map entry_text r.history ++ space_text 0 r.space_journal ++ plugged_text r.plugged ++ flat_map page_text r.pages ++ line (codes "end") []
+    flat_map entry_text r.history ++ flat_map host_text r.host ++ space_text 0 r.space_journal ++ device_text 0 r.device_journal
+    ++ plugged_text r.plugged ++ flat_map page_text r.pages ++ line (codes "end") []
+
+-- ---- what can be written
+
+-- a result's response has a state
+abbrev pub HasResultState : HostResult → Type 0
+HasResultState (results.Answered response) = HasState response
+HasResultState (results.Config config) = Unit {0}
+
+abbrev pub HasActState : DeviceAct → Type 0
+HasActState (Request bytes response) = HasState response
+HasActState act = Unit {0}
+
+-- the responses of a report have states, so that they have bytes
+pub record HaveStates (r : Report) : Type 0 where
+  pub host : AllByRecursion (λ x. HasResultState x.line.result) r.host
+  pub device : AllByRecursion (λ a. HasActState a.act) r.device_journal

@@ -4,7 +4,7 @@ ghost use Rattle.std.specs.Prelude.{◌≡◌, List, [], ◌∷◌, ◌++◌, �
 ghost use Rattle.std.specs.List.{flat_map};
 ghost use Rattle.std.specs.Fmt.{decimal};
 ghost use Rattle.evac_model.specs.Spelling.{call_words};
-ghost use Rattle.report.specs.ReportText.{behind_space, reply_words, entry_text, plugged_text, cell_words, page_text, report_text};
+ghost use Rattle.report.specs.ReportText.{behind_space, HaveStates, reply_words, entry_text, plugged_text, cell_words, page_text, report_text};
 
 use crate::report::{FinalPage, Report};
 use crate::space_text::put_actions;
@@ -155,9 +155,11 @@ fn put_report(out: &mut Vec<u8>, report: &Report) -> Result<(), AllocError>
     out.extend_from_slice(b"end\n")
 }
 
-/// The text of a report: a line for each call in ticket order and for each action of the frame space,
-/// the plugged blocks, a line for each page, and `end`. Each line ends with LF.
+/// The text of a report: a line for each call in ticket order, for each command of the host, for each action
+/// of the frame space, and for each action of the memory device and each of its notices; the plugged blocks, a
+/// line for each page, and `end`. Each line ends with LF. The states of the report's responses are at most 2.
 pub fn write_report(alloc: Global, report: &Report) -> Result<ByteList, OutOfMemory>
+    requires { HaveStates report.now }
     ensures { IfOk result (λ text. text ≡ report_text report.now) }
 {
     let mut out = Vec::new(alloc);
