@@ -1,5 +1,5 @@
 -- How the entries of each owner, and its call under way, go with the space's journal.
-use Rattle.std.specs.Prelude.{◌≡◌, ◌⊎◌, ◌≤◌, ℕ, suc, ◌<◌, nat_lt, ⊤, List, [], ◌∷◌, ◌++◌, length, filter, take, drop, slice_get, Contains, Option, Some, None}
+use Rattle.std.specs.Prelude.{◌≡◌, ◌≤◌, ℕ, suc, ◌<◌, nat_lt, ⊤, List, [], ◌∷◌, ◌++◌, length, filter, take, drop, slice_get, Contains, Option, Some, None}
 use Rattle.evac_model.specs.declared.names.FrameNo.{FrameNo}
 use Rattle.evac_model.specs.declared.names.Kind.{Kind}
 use Rattle.evac_model.specs.declared.names.PageNo.{PageNo}
@@ -72,7 +72,7 @@ pub record AreOwnersCallsMade (s : Scenario) (journal : List SpaceAction) (who :
   pub refused : (e : Entry) (kind : Kind) (at : ℕ) → Contains entries e → e.call ≡ Alloc kind → e.reply ≡ NoFrame at → WasRefusedAt s journal who a entries e.ticket kind at
   pub now : IsRefusedNow s journal who entries a.left a.lease
 
--- each owner's actions are those of its calls, and there are no others
+-- each owner's actions are those of its calls, and nobody else makes any but the driver
 pub record AreCallsMade (s : Scenario) (m : Machine) : Type 0 where
   pub owners : (i : ℕ) (a : OwnerState) (v : View) → slice_get m.owners i ≡ Some a → Has m.snapshot.views (suc i) v → AreOwnersCallsMade s m.journal (suc i) a v.entries
-  pub others : (who : ℕ) → (who ≡ 0) ⊎ (length m.owners < who) → actions_of who m.journal ≡ []
+  pub others : (who : ℕ) → length m.owners < who → actions_of who m.journal ≡ []

@@ -20,6 +20,7 @@ use Rattle.replay.specs.Machine.{Machine}
 use Rattle.replay.specs.Runs.{opening}
 use Rattle.replay.specs.FramesOut.{AreFramesPlaced}
 use Rattle.replay.specs.CallsMade.{AreCallsMade}
+use Rattle.replay.specs.HostKept.{IsHostKept}
 
 -- the tickets of the entries rise
 abbrev pub AreRising : List Entry → Type 0
@@ -51,9 +52,10 @@ pub record AreSeatsKept (s : Scenario) (m : Machine) : Type 0 where
   pub in_order : (i : ℕ) (v : View) → Has m.snapshot.views i v → IsInOrder v
   pub others : (i : ℕ) (v : View) → Has m.snapshot.views i v → (i ≡ 0) ⊎ (length s.owners < i) → IsIdle (opening s) v
 
--- The seats are kept, the frames are where the space's journal has them, and each owner's leases and returns are
--- those of its calls.
+-- The seats are kept, the frames are where the two journals have them, each owner's leases and returns are those of
+-- its calls, and what the host and the device do is what the commands do.
 pub record IsKept (s : Scenario) (m : Machine) : Type 0 where
   pub seats : AreSeatsKept s m
   pub frames : AreFramesPlaced s m
   pub calls : AreCallsMade s m
+  pub host : IsHostKept s m

@@ -1,11 +1,14 @@
 pub mod Machine
 pub mod Schedule
 pub mod Runs
+pub mod HostKept
 pub mod FramesOut
 pub mod CallsMade
 pub mod Keeping
 pub mod Quiet
 pub mod Seats
+pub mod HostSeats
+pub mod HostSeatInside
 pub mod RunningInside
 pub mod Entries
 pub mod Shown

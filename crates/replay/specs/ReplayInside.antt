@@ -1,5 +1,6 @@
 -- What contracts see of a replay.
 use Rattle.std.specs.Prelude.{◌≡◌, ℕ, List, Option}
+use Rattle.evac_model.specs.declared.host.HostCommand.{HostCommand}
 use Rattle.evac_model.specs.declared.scenario.Drawn.{Drawn}
 use Rattle.evac_model.specs.declared.scenario.Scenario.{Scenario}
 use Rattle.evac_model.specs.declared.scenario.Turn.{Turn}
@@ -16,6 +17,7 @@ pub record ReplayState : Type 0 where
   pub named : List Turn
   pub drawn : Option Drawn
   pub calls : ℕ
+  pub commands : List HostCommand
   pub run : Run
 
 -- the replay of a scenario
@@ -25,11 +27,12 @@ replay_of s = record {
   named = s.named;
   drawn = s.drawn;
   calls = call_count s.owners;
+  commands = s.host;
   run = record { setting = setting s; machine = machine_at_start s };
 }
 
 abbrev pub state_of : Inside → ReplayState
-state_of a = record { geometry = a.geometry; named = a.named; drawn = a.drawn; calls = a.calls; run = a.running }
+state_of a = record { geometry = a.geometry; named = a.named; drawn = a.drawn; calls = a.calls; commands = a.commands; run = a.running }
 
 -- it is that of some scenario
 pub record IsReplay (a : Inside) : Type 0 where

@@ -5,8 +5,10 @@ use Rattle.evac_model.specs.declared.names.BlockNo.{BlockNo}
 use Rattle.evac_model.specs.declared.names.PageNo.{PageNo}
 use Rattle.evac_model.specs.declared.call.Call.{Call}
 use Rattle.evac_model.specs.declared.scenario.Scenario.{Scenario}
-use Rattle.evac_model.specs.Pairing.{ArePaired, AreOutForPages, AreUnplugged}
-use Rattle.evac_model.specs.ScenarioGrammar.{call_count, online_of}
+use Rattle.evac_model.specs.DeviceAnswer.{DeviceState, device_at_start}
+use Rattle.evac_model.specs.HostCommands.{host_actions, host_lines, host_onlines, host_runs, AreAnswered}
+use Rattle.evac_model.specs.Pairing.{actions_of, ArePaired, AreOutForPages, AreUnplugged}
+use Rattle.evac_model.specs.ScenarioGrammar.{online_of}
 use Rattle.evac_model.specs.SpaceJournal.{SpaceState, out_for, is_frame_in, space_after, space_at_start}
 use Rattle.evac_model.specs.Page.{Page}
 use Rattle.evac_model.specs.State.{PlainState, start_state}
@@ -17,12 +19,13 @@ use Rattle.core_state.specs.declared.opening.Opening.{Opening}
 use Rattle.core_state.specs.Words.{entry_word_of, cells_of_frame, kind_in}
 use Rattle.core_state.specs.CoreOpens.{opening_of, opening_words, opening_views}
 use Rattle.core_state.specs.Histories.{IsHistoryOf}
+use Rattle.core_actors.specs.Hosts.{host_at_start, host_ended}
 use Rattle.core_actors.specs.Owners.{OwnerState, owner_at_start, owner_ended}
 use Rattle.report.specs.declared.report.FinalPage.{FinalPage}
 use Rattle.report.specs.declared.report.Report.{Report}
 use Rattle.report.specs.FinalPages.{final_page, state_of}
-use Rattle.replay.specs.Machine.{Setting, Machine, after_turns}
-use Rattle.replay.specs.Schedule.{schedule, round_bound}
+use Rattle.replay.specs.Machine.{Setting, Machine, device_at, after_turns}
+use Rattle.replay.specs.Schedule.{schedule, round_count}
 
 -- ---- the run
 
@@ -47,16 +50,24 @@ machine_at_start s = record {
   snapshot = record { words = opening_words s.geometry s.start; views = opening_views s.geometry s.start (budgets_of s.owners) };
   owners = owners_from s.geometry.cells 1 s.owners;
   journal = [];
+  host = host_at_start s.geometry s.host;
+  lines = [];
+  device = [];
 }
 
 abbrev pub AllEnded : List OwnerState → Type 0
 AllEnded owners = (i : ℕ) (a : OwnerState) → slice_get owners i ≡ Some a → owner_ended a ≡ true
 
+-- all owners and the host have ended
+pub record HaveEnded (m : Machine) : Type 0 where
+  pub owners : AllEnded m.owners
+  pub host : host_ended m.host ≡ true
+
 -- The machine after the run: the turns of the schedule were made, with as many rounds as the bound has,
--- and all owners have ended. From the moment on when they have, a turn changes nothing.
+-- and all actors have ended. From the moment on when they have, a turn changes nothing.
 pub record IsScheduledRun (s : Scenario) (m : Machine) : Type 0 where
-  pub made : m ≡ after_turns (setting s) (machine_at_start s) (schedule s (round_bound s.geometry.cells (call_count s.owners)))
-  pub ended : AllEnded m.owners
+  pub made : m ≡ after_turns (setting s) (machine_at_start s) (schedule s (round_count s))
+  pub ended : HaveEnded m
 
 -- ---- its report
 
@@ -72,18 +83,19 @@ abbrev pub shown_below : Opening → List ℕ → ℕ → List FinalPage
 shown_below o words zero = []
 shown_below o words (suc n) = shown_below o words n ++ final_page n (shown_page o words n)
 
--- the first n blocks, rising
-abbrev pub first_blocks : ℕ → List BlockNo
-first_blocks zero = []
-first_blocks (suc n) = first_blocks n ++ (record { 0 = n }) ∷ []
+-- blocks by their numbers
+abbrev pub block_list : List ℕ → List BlockNo
+block_list numbers = map (λ b. record { 0 = b }) numbers
 
--- what the machine leaves: the entries in ticket order, the actions of the frame space, the plugged blocks, and
--- the pages
+-- what the machine leaves: the entries in ticket order, the host's commands with their lines, the actions of the
+-- frame space and of the memory device, the blocks that are plugged by these, and the pages
 pub record IsReportAfter (s : Scenario) (m : Machine) (r : Report) : Type 0 where
   pub history : IsHistoryOf (opening s) m.snapshot.words m.snapshot.views r.history
+  pub host : r.host ≡ host_runs s.host m.lines
   pub space : r.space_journal ≡ m.journal
+  pub device : r.device_journal ≡ m.device
+  pub plugged : r.plugged ≡ block_list (device_at s.geometry m.device).plugged
   pub pages : r.pages ≡ shown_below (opening s) m.snapshot.words s.geometry.pages
-  pub plugged : r.plugged ≡ first_blocks s.geometry.plugged
 
 -- the report is that of the scheduled run
 pub record IsReportOfRun (s : Scenario) (r : Report) : Type 0 where
@@ -101,17 +113,32 @@ plain_start s = start_state s.geometry.cells s.start
 abbrev pub space_reported : Scenario → Report → SpaceState
 space_reported s r = space_after s.geometry (online_of s) (space_at_start s.geometry s.start) r.space_journal
 
+-- the memory device at the start, and behind the actions reported
+abbrev pub device_start : Scenario → DeviceState
+device_start s = device_at_start s.geometry
+
+abbrev pub device_reported : Scenario → Report → DeviceState
+device_reported s r = device_at s.geometry r.device_journal
+
 -- The calls reported, in ticket order, are one legal history of pages that never move, each script
 -- call once, in its caller's order, and the pages reported are the state after it. The actions of the
 -- frame space are possible and are those of the calls, and a call has no frame only where none is free for it.
--- The frames out at the end are those of the mapped pages, and the offline blocks those that aren't plugged. No frame
--- that is out, and so no mapped page, lies in an offline block.
+-- The host's commands are reported in their order, each with what the device gave by the actions before; the device's
+-- actions are those of the commands, each response is its answer by the actions before it, and the driver put the
+-- blocks online that were plugged, and no others.
+-- The plugged blocks are those that the device's actions leave. The frames out at the end are those of the mapped
+-- pages, and the offline blocks those that aren't plugged. No frame that is out, and so no mapped page, lies in an
+-- offline block.
 pub record IsReportOf (s : Scenario) (r : Report) : Type 0 where
   pub legal : IsLegal s.geometry.cells (plain_start s) r.history
   pub scripts : IsOfScripts s.owners r.history
   pub pages : state_of r.pages ≡ after_entries s.geometry.cells (plain_start s) r.history
   pub rising : IsStrictlyIncreasing (map (λ p. p.page.0) r.pages)
-  pub plugged : r.plugged ≡ first_blocks s.geometry.plugged
+  pub host : r.host ≡ host_runs s.host (host_lines s.geometry (device_start s) 0 s.host)
+  pub device : r.device_journal ≡ host_actions s.geometry (device_start s) s.host
+  pub answered : AreAnswered s.geometry (device_start s) r.device_journal
+  pub driver : actions_of 0 r.space_journal ≡ host_onlines s.geometry (device_start s) s.host
+  pub plugged : r.plugged ≡ block_list (device_reported s r).plugged
   pub space : ArePaired s.geometry (online_of s) (space_at_start s.geometry s.start) r.history r.space_journal
   pub frames : AreOutForPages (space_reported s r) (after_entries s.geometry.cells (plain_start s) r.history)
   pub offline : AreUnplugged s.geometry (space_reported s r) r.plugged

@@ -8,6 +8,7 @@ use Rattle.evac_model.specs.declared.scenario.Actor.TheVariants.{Owner, Host, Sc
 use Rattle.evac_model.specs.declared.scenario.Drawn.{Drawn}
 use Rattle.evac_model.specs.declared.scenario.Scenario.{Scenario}
 use Rattle.evac_model.specs.declared.scenario.Turn.{Turn}
+use Rattle.evac_model.specs.Geometry.{Sizes, frame_count}
 use Rattle.evac_model.specs.Turns.{turn_count}
 use Rattle.evac_model.specs.ScenarioGrammar.{call_count}
 
@@ -50,11 +51,16 @@ abbrev pub draw_count : Option Drawn → ℕ
 draw_count None = 0
 draw_count (Some d) = d.count
 
--- One more than the steps that calls could make, with so many cells in a page. In each round before the
--- end some owner makes a step other than a take that finds its page taken.
-abbrev pub round_bound : ℕ → ℕ → ℕ
-round_bound cells calls = 1 + calls * (cells + 6)
+-- One more than the steps that so many calls and so many commands could make. In each round before the end some
+-- owner makes a step other than a take that finds its page taken, or the host makes a step.
+abbrev pub round_bound : Sizes → (calls commands : ℕ) → ℕ
+round_bound s calls commands =
+    1 + calls * (s.cells + 6) + commands * (frame_count s * (11 * s.cells + 36) + 9 * s.managed + 4)
+
+-- the rounds of a scenario
+abbrev pub round_count : Scenario → ℕ
+round_count s = round_bound s.geometry (call_count s.owners) (length s.host)
 
 -- the turns that a run needs at most: each round has a turn of each owner, of the host and of the scanner
 abbrev pub turn_bound : Scenario → ℕ
-turn_bound s = turn_count s.named + draw_count s.drawn + (length s.owners + 2) * round_bound s.geometry.cells (call_count s.owners)
+turn_bound s = turn_count s.named + draw_count s.drawn + (length s.owners + 2) * round_count s

@@ -19,7 +19,7 @@ use Rattle.core_actors.specs.declared.action.Action.TheVariants as actions
 use Rattle.core_actors.specs.declared.action.Heard.{Heard}
 use Rattle.core_actors.specs.declared.action.Heard.TheVariants as heard
 use Rattle.core_actors.specs.declared.action.SpaceCall.{SpaceCall}
-use Rattle.core_actors.specs.declared.action.SpaceCall.TheVariants.{Lease, Return}
+use Rattle.core_actors.specs.declared.action.SpaceCall.TheVariants.{Lease, Return, Online}
 use Rattle.core_actors.specs.Actions.{owner_heard, IsStorable}
 use Rattle.core_actors.specs.Owners.{OwnerState, owner_ended, next_action}
 use Rattle.space.specs.JournaledSpace.{JournaledSpace}
@@ -55,6 +55,7 @@ MayReturn c seat free s journal frame =
 abbrev pub MayAsk : Setting → (seat free : ℕ) → Snapshot → List SpaceAction → SpaceCall → Type 0
 MayAsk c seat free s journal (Lease page kind) = (page.0 < c.sizes.pages) × MayLease c seat free s journal kind
 MayAsk c seat free s journal (Return frame) = MayReturn c seat free s journal frame
+MayAsk c seat free s journal (Online block) = Unit {0}
 
 -- the action is allowed; a value that a step stores has 64 bits, and a step needs no room for a notice
 abbrev pub MayMake : Setting → (seat free : ℕ) → Snapshot → List SpaceAction → Action → Type 0
@@ -62,6 +63,7 @@ MayMake c seat free s journal (actions.Step step) =
     (IsStorable step → Allowed c.opening (view_of s.views seat) step) × (notices_of (view_of s.views seat) step ≡ 0)
 MayMake c seat free s journal (actions.Move step) = AllowedMove OneOwner c.opening (view_of s.views seat) step
 MayMake c seat free s journal (actions.Space call) = MayAsk c seat free s journal call
+MayMake c seat free s journal (actions.Device call) = Unit {0}
 MayMake c seat free s journal actions.Ended = Unit {0}
 
 -- the next action of an owner that hasn't ended is allowed

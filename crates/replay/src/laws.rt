@@ -4,39 +4,40 @@ ghost use Rattle.std.specs.Prelude.{◌≡◌, List, length};
 ghost use Rattle.evac_model.specs.declared.scenario.Actor.{Actor};
 ghost use Rattle.evac_model.specs.declared.scenario.Scenario.{Scenario};
 ghost use Rattle.evac_model.specs.Scenarios.{IsRunnable};
-ghost use Rattle.evac_model.specs.ScenarioGrammar.{call_count};
 ghost use Rattle.report.specs.declared.report.Report.{Report};
 ghost use Rattle.replay.specs.Machine.{Machine, after_turn, after_turns};
-ghost use Rattle.replay.specs.Schedule.{schedule, round_bound, turn_bound};
+ghost use Rattle.replay.specs.Schedule.{schedule, round_count, turn_bound};
 ghost use Rattle.replay.specs.Keeping.{IsKept};
-ghost use Rattle.replay.specs.Runs.{setting, machine_at_start, AllEnded, IsScheduledRun, IsReportAfter, IsReportOf};
+ghost use Rattle.replay.specs.Runs.{setting, machine_at_start, HaveEnded, IsReportAfter, IsReportOf};
 
-/// The machine at the start is sound, each owner's seat is at the start of its script, and the frames are
-/// where the space has them.
+/// The machine at the start is sound, each owner's seat is at the start of its script, the frames are where the
+/// space and the device have them, and the host is at the start of its commands.
 pub fn starts_are_kept()
     ensures { (s : Scenario) → IsRunnable s → IsKept s (machine_at_start s) }
 {}
 
 /// Each turn of each actor keeps the machine sound, each owner's seat as its script has it, the frames where
-/// the space's journal has them, and each owner's leases and returns those of its calls.
+/// the journals of the space and of the device have them, each owner's leases and returns those of its calls, and
+/// what the host and the device did what the commands do.
 pub fn turns_are_kept()
     ensures { (s : Scenario) (m : Machine) (actor : Actor) → IsRunnable s → IsKept s m → IsKept s (after_turn (setting s) m actor) }
 {}
 
-/// After the named and the drawn turns and so many rounds as the calls could have steps, and one more,
-/// every owner has ended.
+/// After the named and the drawn turns and so many rounds as the calls and the commands could have steps, and one
+/// more, every actor has ended.
 pub fn runs_end_within_their_bound()
-    ensures { (s : Scenario) → IsRunnable s → AllEnded (after_turns (setting s) (machine_at_start s) (schedule s (round_bound s.geometry.cells (call_count s.owners)))).owners }
+    ensures { (s : Scenario) → IsRunnable s → HaveEnded (after_turns (setting s) (machine_at_start s) (schedule s (round_count s))) }
 {}
 
 /// So many turns are those of the bound.
 pub fn bounds_count_turns()
-    ensures { (s : Scenario) → length (schedule s (round_bound s.geometry.cells (call_count s.owners))) ≡ turn_bound s }
+    ensures { (s : Scenario) → length (schedule s (round_count s)) ≡ turn_bound s }
 {}
 
-/// What a machine leaves whose owners have ended is a legal history of pages that never move, each script
-/// call once, and the state after it; its space journal is that of the history, and the frames out at the end
-/// are those of the mapped pages.
+/// What a machine leaves whose actors have ended is a legal history of pages that never move, each script
+/// call once, and the state after it; its space journal is that of the history, its lines of the host and its device
+/// journal are those of the commands, the frames out at the end are those of the mapped pages, and the plugged
+/// blocks what the device's journal leaves.
 pub fn reports_tell_legal_histories()
-    ensures { (s : Scenario) (m : Machine) (r : Report) → IsRunnable s → IsKept s m → AllEnded m.owners → IsReportAfter s m r → IsReportOf s r }
+    ensures { (s : Scenario) (m : Machine) (r : Report) → IsRunnable s → IsKept s m → HaveEnded m → IsReportAfter s m r → IsReportOf s r }
 {}

@@ -1,17 +1,23 @@
-//! The core, the frame space and the owners, and their turns.
+//! The core, the frame space, the memory device and the actors, and their turns.
 
+use crate::host_calls::ReplayDevice;
+use crate::host_seat::HostSeat;
 use crate::owner_seat::OwnerSeat;
 use core_state::Core;
 use evac_model::{Actor, Listed, OutOfMemory};
+use mem_device::BlockHand;
 use space::Space;
 use std::marker::Model;
 
-/// The core, the frame space, and each owner on its seat, that of owner 1 first. Contracts see what the
-/// run began with and the machine as it stands.
+/// The core, the frame space, the memory device and the blocks that the driver holds, the host, and each
+/// owner on its seat, that of owner 1 first. Contracts see what the run began with and the machine as it stands.
 #[derive(Drop)]
 pub(crate) struct Running {
     pub(crate) core: Core,
     pub(crate) space: Space,
+    pub(crate) device: ReplayDevice,
+    pub(crate) held: BlockHand,
+    pub(crate) host: HostSeat,
     pub(crate) owners: Listed<OwnerSeat>,
 }
 
@@ -29,7 +35,7 @@ impl Model for Running {
 impl Running {
     ghost use Rattle.std.specs.Prelude.{◌≡◌, ◌∷◌, [], true, length, OnOk, OnErr};
     ghost use Rattle.replay.specs.Machine.{run_after};
-    ghost use Rattle.replay.specs.Runs.{AllEnded};
+    ghost use Rattle.replay.specs.Runs.{AllEnded, HaveEnded};
 
     /// How many owners there are.
     pub fn owner_count(&self) -> u32
@@ -52,20 +58,38 @@ impl Running {
         seat.turn(&mut self.core, &mut self.space, owner, free)
     }
 
-    /// A turn of an actor. A lease takes the memory of the space's journal; where there is none, nothing
-    /// changes.
+    /// A turn of the host. The seats of the free frames and of the unplugged ones are the second and the third
+    /// behind those of the owners.
+    fn host_turn(&mut self) -> Result<(), OutOfMemory>
+        ensures turned { OnOk result (self.new ≡ run_after self.old (Actor.Host ∷ [])) }
+        ensures err { OnErr result (self.new ≡ self.old) }
+    {
+        let free = self.owner_count() + 2;
+        self.host.turn(
+            &mut self.core,
+            &mut self.space,
+            &mut self.device,
+            &mut self.held,
+            free,
+            free + 1,
+        )
+    }
+
+    /// A turn of an actor. A lease takes the memory of the space's journal, a request that of the device's; where
+    /// there is none, nothing changes.
     pub fn turn(&mut self, actor: Actor) -> Result<(), OutOfMemory>
         ensures turned { OnOk result (self.new ≡ run_after self.old (actor ∷ [])) }
         ensures err { OnErr result (self.new ≡ self.old) }
     {
         match actor {
             Actor::Owner(owner) => self.owner_turn(owner),
-            Actor::Host | Actor::Scanner => Ok(()),
+            Actor::Host => self.host_turn(),
+            Actor::Scanner => Ok(()),
         }
     }
 
     /// Whether each owner was found to have ended.
-    pub fn have_all_ended(&self) -> bool
+    fn have_owners_ended(&self) -> bool
         ensures { result ≡ true → AllEnded self.now.machine.owners }
     {
         for seat in self.owners.as_slice() {
@@ -74,5 +98,12 @@ impl Running {
             }
         }
         true
+    }
+
+    /// Whether each owner and the host were found to have ended.
+    pub fn have_all_ended(&self) -> bool
+        ensures { result ≡ true → HaveEnded self.now.machine }
+    {
+        self.host.has_ended() && self.have_owners_ended()
     }
 }

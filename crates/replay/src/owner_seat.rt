@@ -32,7 +32,7 @@ impl Model for OwnerSeat {
     ghost invariant = { IsOwnerSeat };
 }
 
-/// How the other actors stand: there is neither a host nor a scanner with work.
+/// How the other actors stand, which counts for no owner.
 const OTHERS: Others = Others {
     owners_ended: false,
     host_ended: true,
@@ -107,6 +107,8 @@ impl OwnerSeat {
                 self.last = Heard::Nothing;
             }
             Action::Space(call) => self.last = ask(core, space, seat, free, call)?,
+            // no call of an owner asks for it
+            Action::Device(_) => {}
             Action::Ended => self.ended = true,
         }
         Ok(())

@@ -5,22 +5,26 @@ ghost use Rattle.evac_words.specs.Table.{table_length};
 ghost use Rattle.core_state.specs.Room.{IsSmall};
 ghost use Rattle.core_state.specs.Words.{cells_of_frame};
 ghost use Rattle.report.specs.FinalPages.{final_page};
-ghost use Rattle.replay.specs.Runs.{first_blocks, shown_page, shown_below};
+ghost use Rattle.replay.specs.Runs.{block_list, shown_page, shown_below};
 ghost use Rattle.replay.specs.Shown.{MapsInside};
 
 use core_state::Opening;
 use evac_model::{BlockNo, Kind, Listed, PageNo};
 use evac_words::{cell_index, entry_index, unpack};
+use mem_device::BlockMap;
 use report::FinalPage;
 use std::alloc::{AllocError, Global};
 
-/// The blocks that are plugged: the first `count` ones.
-pub(crate) fn plugged_blocks(alloc: Global, count: u32) -> Result<Vec<BlockNo>, AllocError>
-    ensures { IfOk result (λ blocks. blocks.items ≡ first_blocks count) }
+/// The plugged blocks, rising.
+pub(crate) fn plugged_blocks(alloc: Global, map: &BlockMap) -> Result<Vec<BlockNo>, AllocError>
+    ensures { IfOk result (λ blocks. blocks.items ≡ block_list map.now.plugged) }
 {
+    let managed = map.geometry().managed();
     let mut blocks = Vec::new(alloc);
-    for b in 0..count {
-        blocks.push(BlockNo(b))?;
+    for b in 0..managed {
+        if map.plugged(BlockNo(b)) {
+            blocks.push(BlockNo(b))?;
+        }
     }
     Ok(blocks)
 }

@@ -7,16 +7,22 @@ ghost use Rattle.evac_model.specs.ScenarioGrammar.{call_count};
 ghost use Rattle.evac_model.specs.Turns.{turn_count};
 ghost use Rattle.evac_model.specs.declared.scenario.Scenario.{Scenario};
 ghost use Rattle.replay.specs.Keeping.{IsKept};
-ghost use Rattle.replay.specs.Runs.{budgets_of, owners_from, setting, AllEnded, IsReportAfter};
+ghost use Rattle.replay.specs.Runs.{budgets_of, owners_from, setting, machine_at_start, HaveEnded, IsReportAfter};
 
 use crate::history::history;
+use crate::host_report::{actions, runs};
+use crate::host_seat::HostSeat;
 use crate::machine::Running;
 use crate::owner_seat::OwnerSeat;
 use crate::pages::{final_pages, plugged_blocks};
 use crate::schedule;
-use core_actors::Owner;
+use core_actors::{Host, Owner};
 use core_state::Core;
-use evac_model::{CallList, Drawn, Geometry, Kind, Listed, OutOfMemory, Scenario, Turn, TurnList};
+use evac_model::{
+    BlockNo, CallList, CommandList, Drawn, Geometry, HostCommand, Kind, Listed, OutOfMemory,
+    Scenario, Turn, TurnList,
+};
+use mem_device::{BlockHand, Device, SureSlate};
 use report::Report;
 use space::Space;
 use std::alloc::{AllocError, Global};
@@ -79,35 +85,73 @@ fn count_turns(turns: &[Turn]) -> u64
     count
 }
 
-/// What a machine leaves whose owners have all ended.
-fn report_of(alloc: Global, geometry: &Geometry, run: &Running) -> Result<Report, OutOfMemory>
-    requires ended { AllEnded run.now.machine.owners }
-    ensures { IfOk result (λ report. (s : Scenario) → run.now.setting ≡ setting s → geometry.now ≡ s.geometry → IsKept s run.now.machine → IsReportAfter s run.now.machine report) }
+/// A copy of commands.
+fn commands_of(alloc: Global, commands: &[HostCommand]) -> Result<CommandList, AllocError>
+    ensures { IfOk result (λ copy. copy ≡ commands.now) }
+{
+    Ok(Listed::from_vec(Vec::from_slice(alloc, commands)?))
+}
+
+/// What a machine leaves whose actors have all ended.
+fn report_of(alloc: Global, commands: &[HostCommand], run: &Running) -> Result<Report, OutOfMemory>
+    requires ended { HaveEnded run.now.machine }
+    ensures { IfOk result (λ report. (s : Scenario) → run.now.setting ≡ setting s → commands.now ≡ s.host → IsKept s run.now.machine → IsReportAfter s run.now.machine report) }
 {
     let snapshot = run.core.snapshot();
     let words = snapshot.words.as_slice();
     let opening = run.core.opening();
     let history = history(alloc, snapshot.views.as_slice(), words[0] as usize)?;
+    let host = runs(alloc, commands, run.host.lines())?;
     let pages = final_pages(alloc, opening, words)?;
-    let plugged = plugged_blocks(alloc, geometry.plugged())?;
+    let plugged = plugged_blocks(alloc, run.device.plugged())?;
     let journal = Vec::from_slice(alloc, run.space.journal())?;
+    let device = actions(alloc, run.device.journal())?;
     Ok(Report {
         history: Listed::from_vec(history),
+        host: Listed::from_vec(host),
         space_journal: Listed::from_vec(journal),
+        device_journal: Listed::from_vec(device),
         plugged: Listed::from_vec(plugged),
         pages: Listed::from_vec(pages),
     })
 }
 
+/// The machine of a scenario at its start.
+fn running(alloc: Global, s: &Scenario) -> Result<Running, OutOfMemory>
+    requires { IsRunnable s.now }
+    ensures { IfOk result (λ r. r ≡ record { setting = setting s.now; machine = machine_at_start s.now }) }
+{
+    let g = s.geometry;
+    let budgets = budgets(alloc, s.owners.as_slice())?;
+    let core = Core::open(alloc, g, s.start.as_slice(), budgets.as_slice())?;
+    let online = s.online.unwrap_or(Kind::Movable);
+    let space = Space::open(alloc, g, online, s.start.as_slice())?;
+    let unplugged = BlockHand::new(alloc, g, BlockNo(g.plugged()), g.managed() - g.plugged())?;
+    let device = Device::open(alloc, g, SureSlate::new(), unplugged)?;
+    let held = BlockHand::new(alloc, g, BlockNo(0), 0)?;
+    let commands = commands_of(alloc, s.host.as_slice())?;
+    let owners = Listed::from_vec(owners(alloc, &g, s.owners.as_slice())?);
+    Ok(Running {
+        core,
+        space,
+        device,
+        held,
+        host: HostSeat::new(alloc, Host::new(g, commands)),
+        owners,
+    })
+}
+
 /// The replay of one scenario: its turns, and the machine at the start. Each turn makes one step of one
-/// actor: the next step of an owner's call on a word, or what it asks of the frame space. The turns are
-/// the named ones, those that the generator draws, and then rounds over all actors until all have ended.
+/// actor: the next step of an owner's call on a word, or what it asks of the frame space; or what the host asks
+/// of the memory device or of the frame space. The turns are the named ones, those that the generator draws, and
+/// then rounds over all actors until all have ended.
 #[derive(Drop)]
 pub struct Replay {
     geometry: Geometry,
     named: TurnList,
     drawn: Option<Drawn>,
     calls: u64,
+    commands: CommandList,
     running: Running,
 }
 
@@ -127,8 +171,8 @@ impl Replay {
     ghost use Rattle.evac_model.specs.Scenarios.{IsRunnable};
     ghost use Rattle.replay.specs.Machine.{after_turns};
     ghost use Rattle.replay.specs.ReplayInside.{replay_of};
-    ghost use Rattle.replay.specs.Runs.{setting, machine_at_start, AllEnded, IsReportOfRun, IsReportOf};
-    ghost use Rattle.replay.specs.Schedule.{schedule, round_bound, turn_bound};
+    ghost use Rattle.replay.specs.Runs.{setting, machine_at_start, HaveEnded, IsReportOfRun, IsReportOf};
+    ghost use Rattle.replay.specs.Schedule.{schedule, round_bound, round_count, turn_bound};
 
     /// The machine of a scenario at its start, and its turns. It takes the memory of the words, of the
     /// views, of the frame space and of a copy of the scripts.
@@ -136,37 +180,32 @@ impl Replay {
         requires { IsRunnable s.now }
         ensures { IfOk result (λ r. r ≡ replay_of s.now) }
     {
-        let budgets = budgets(alloc, s.owners.as_slice())?;
-        let core = Core::open(alloc, s.geometry, s.start.as_slice(), budgets.as_slice())?;
-        let online = s.online.unwrap_or(Kind::Movable);
-        let space = Space::open(alloc, s.geometry, online, s.start.as_slice())?;
-        let owners = Listed::from_vec(owners(alloc, &s.geometry, s.owners.as_slice())?);
         Ok(Replay {
             geometry: s.geometry,
             named: Listed::from_vec(Vec::from_slice(alloc, s.named.as_slice())?),
             drawn: s.drawn,
             calls: calls_in(s.owners.as_slice()),
-            running: Running {
-                core,
-                space,
-                owners,
-            },
+            commands: commands_of(alloc, s.host.as_slice())?,
+            running: running(alloc, s)?,
         })
     }
 
     /// The most rounds that a run needs.
     fn round_bound(&self) -> u64
-        ensures { result ≡ round_bound self.now.geometry.cells self.now.calls }
+        ensures { result ≡ round_bound self.now.geometry self.now.calls (length self.now.commands) }
     {
-        1 + self.calls * (u64::from(self.geometry.cells()) + 6)
+        let g = self.geometry;
+        let cells = u64::from(g.cells());
+        let by_command = u64::from(g.frames()) * (11 * cells + 36) + 9 * u64::from(g.managed()) + 4;
+        1 + self.calls * (cells + 6) + self.commands.len() as u64 * by_command
     }
 
     /// The number of turns after which every actor has ended: the named and the drawn ones, and so many
-    /// rounds over all actors as the calls could have steps.
+    /// rounds over all actors as the calls and the commands could have steps.
     pub fn bound(&self) -> u64
         ensures bound { (s : Scenario) → self.now ≡ replay_of s → result ≡ turn_bound s }
-        ensures ended { (s : Scenario) → IsRunnable s → self.now ≡ replay_of s → (length (schedule s (round_bound s.geometry.cells self.now.calls)) ≡ result)
-            × AllEnded (after_turns (setting s) (machine_at_start s) (schedule s (round_bound s.geometry.cells self.now.calls))).owners }
+        ensures ended { (s : Scenario) → IsRunnable s → self.now ≡ replay_of s → (length (schedule s (round_count s)) ≡ result)
+            × HaveEnded (after_turns (setting s) (machine_at_start s) (schedule s (round_count s))) }
     {
         let drawn = match &self.drawn {
             Some(d) => u64::from(d.count),
@@ -177,17 +216,18 @@ impl Replay {
     }
 
     /// Makes the turns of the schedule, and reports what they leave. Each answer of a call is given by
-    /// its steps. It takes the memory of the space's journal, turn by turn, and of the report.
+    /// its steps. It takes the memory of the two journals and of the host's lines, turn by turn, and of the report.
     pub fn run(self, alloc: Global) -> Result<Report, OutOfMemory>
         ensures run { IfOk result (λ report. (s : Scenario) → IsRunnable s → self ≡ replay_of s → IsReportOfRun s report) }
         ensures theorem { IfOk result (λ report. (s : Scenario) → IsRunnable s → self ≡ replay_of s → IsReportOf s report) }
     {
         let most = self.round_bound();
         let Replay {
-            geometry,
+            geometry: _,
             named,
             drawn,
             calls: _,
+            commands,
             running,
         } = self;
         let mut run = running;
@@ -195,6 +235,6 @@ impl Replay {
         schedule::named(&mut run, named.as_slice())?;
         schedule::drawn(&mut run, owners, &drawn)?;
         schedule::rounds(&mut run, owners, most)?;
-        report_of(alloc, &geometry, &run)
+        report_of(alloc, commands.as_slice(), &run)
     }
 }

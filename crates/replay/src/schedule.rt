@@ -78,7 +78,7 @@ pub(crate) fn drawn(
     }
 }
 
-/// One round over all actors; the host and the scanner have nothing to do.
+/// One round over all actors; the scanner has nothing to do.
 fn round(run: &mut Running, owners: u32) -> Result<(), OutOfMemory>
     requires few { owners ≤ 16 }
     ensures { OnOk result (run.new ≡ run_after run.old (actors owners)) }
@@ -86,10 +86,10 @@ fn round(run: &mut Running, owners: u32) -> Result<(), OutOfMemory>
     for owner in 0..owners {
         run.turn(Actor::Owner(owner + 1))?;
     }
-    Ok(())
+    run.turn(Actor::Host)
 }
 
-/// So many rounds; those behind the end of all owners change nothing, and aren't made.
+/// So many rounds; those behind the end of all actors change nothing, and aren't made.
 pub(crate) fn rounds(run: &mut Running, owners: u32, count: u64) -> Result<(), OutOfMemory>
     requires few { owners ≤ 16 }
     ensures { OnOk result (run.new ≡ run_after run.old (rounds (actors owners) count)) }

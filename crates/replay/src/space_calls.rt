@@ -92,5 +92,7 @@ pub(crate) fn ask(
     match call {
         SpaceCall::Lease { page, kind } => lease(core, space, seat, free, page, kind),
         SpaceCall::Return { frame } => Ok(give_back(core, space, seat, free, frame)),
+        // no call of an owner asks for it, and nothing is heard of it
+        SpaceCall::Online { .. } => Ok(Heard::Start),
     }
 }

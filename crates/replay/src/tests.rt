@@ -117,7 +117,7 @@ fn scenario(
     scripts: Vec<CallList>,
 ) -> Result<Scenario, Fail>
     ensures { IfOk result (λ s. s
-        ≡ record { geometry = geometry; online = None; start = start.now; named = named.now; drawn = drawn; owners = scripts.items }) }
+        ≡ record { geometry = geometry; online = None; start = start.now; named = named.now; drawn = drawn; owners = scripts.items; host = [] }) }
 {
     Ok(Scenario {
         geometry,
@@ -126,6 +126,7 @@ fn scenario(
         named: Listed::from_vec(Vec::from_slice(alloc, named)?),
         drawn,
         owners: Listed::from_vec(scripts),
+        host: Listed::from_vec(Vec::new(alloc)),
     })
 }
 

@@ -1,0 +1,131 @@
+//! The host beside what it is to hear at its next turn, and its turns.
+
+use crate::host_calls::{ReplayDevice, ask_device, put_online};
+use core_actors::{Action, Heard, Host, Others, SpaceCall};
+use core_state::Core;
+use evac_model::{HostLine, OutOfMemory};
+use mem_device::BlockHand;
+use space::Space;
+use std::alloc::Global;
+use std::marker::Model;
+
+/// The host, what its last action gave, and the lines of its commands. Contracts see the host and the lines as
+/// they stand once it has heard that.
+#[derive(Drop)]
+pub struct HostSeat {
+    host: Host,
+    last: Heard,
+    lines: Vec<HostLine>,
+    ended: bool,
+}
+
+impl Model for HostSeat {
+    ghost use Rattle.replay.specs.HostSeats.{HostSoFar};
+    ghost use Rattle.replay.specs.HostSeatInside.{host_so_far, IsHostSeat};
+
+    ghost Value = { HostSoFar };
+
+    ghost view = { host_so_far };
+
+    ghost invariant = { IsHostSeat };
+}
+
+/// How the other actors stand, which counts for none of the host's commands yet.
+const OTHERS: Others = Others {
+    owners_ended: false,
+    host_ended: false,
+    passes_made: true,
+    final_due: false,
+    final_made: false,
+};
+
+impl HostSeat {
+    ghost use Rattle.std.specs.Prelude.{◌≡◌, ◌≢◌, ◌<◌, true, [], length, OnOk, OnErr};
+    ghost use Rattle.core_state.specs.CoreState.{IsSound};
+    ghost use Rattle.core_actors.specs.Hosts.{host_ended, IsHostUnderWay};
+    ghost use Rattle.evac_model.specs.HostCommands.{blocks_of};
+    ghost use Rattle.replay.specs.Machine.{after_host_next};
+    ghost use Rattle.replay.specs.Seats.{setting_of};
+    ghost use Rattle.replay.specs.HostSeats.{host_scene, MayHostAct};
+
+    /// A host that has heard nothing yet.
+    pub fn new(alloc: Global, host: Host) -> HostSeat
+        ensures { result ≡ record { state = host.state; lines = [] } }
+    {
+        HostSeat {
+            host,
+            last: Heard::Start,
+            lines: Vec::new(alloc),
+            ended: false,
+        }
+    }
+
+    /// Whether the host was found to have ended.
+    pub fn has_ended(&self) -> bool
+        ensures { result ≡ true → host_ended self.now.state ≡ true }
+    {
+        self.ended
+    }
+
+    /// The lines of the commands that have ended, where the host was found to have ended.
+    pub fn lines(&self) -> &[HostLine]
+        requires { host_ended self.now.state ≡ true }
+        ensures { result.now ≡ self.now.lines }
+    {
+        self.lines.as_slice()
+    }
+
+    /// Makes the host's next action, if it hasn't ended. The seat `free` has the free frames in hand, the seat
+    /// `unplugged` those of the blocks that aren't plugged, and `held` the blocks that the host is to put online.
+    /// Where there is no memory for a journal or for the lines, nothing changes.
+    pub fn turn(
+        &mut self,
+        core: &mut Core,
+        space: &mut Space,
+        device: &mut ReplayDevice,
+        held: &mut BlockHand,
+        free: u32,
+        unplugged: u32,
+    ) -> Result<(), OutOfMemory>
+        requires free { free < length core.old.snapshot.views }
+        requires unplugged { unplugged < length core.old.snapshot.views }
+        requires free_apart { free ≢ 0 }
+        requires unplugged_apart { unplugged ≢ 0 }
+        requires sound { IsSound core.old }
+        requires may { MayHostAct (setting_of core.old.opening space.old) free unplugged (host_scene core.old.snapshot self.old space.old.journal device.old.journal) }
+        requires under_way { IsHostUnderWay self.old.state }
+        requires sizes { self.old.state.sizes ≡ space.old.sizes }
+        requires device { device.old.sizes ≡ space.old.sizes }
+        requires held { held.old.blocks ≡ blocks_of self.old.state.online }
+        requires room { held.old.room ≡ space.old.sizes.managed }
+        ensures turned { OnOk result (host_scene core.new.snapshot self.new space.new.journal device.new.journal
+            ≡ after_host_next space.old.sizes free unplugged (host_scene core.old.snapshot self.old space.old.journal device.old.journal)) }
+        ensures sound { IsSound core.new }
+        ensures setting { setting_of core.new.opening space.new ≡ setting_of core.old.opening space.old }
+        ensures device { device.new.sizes ≡ device.old.sizes }
+        ensures held { held.new.blocks ≡ blocks_of self.new.state.online }
+        ensures room { held.new.room ≡ held.old.room }
+        ensures err { OnErr result ((host_scene core.new.snapshot self.new space.new.journal device.new.journal
+            ≡ host_scene core.old.snapshot self.old space.old.journal device.old.journal)) }
+    {
+        if self.lines.reserve(1).is_err() {
+            return Err(OutOfMemory);
+        }
+        let action = self.host.next(self.last, OTHERS);
+        // what was heard is heard once
+        self.last = Heard::Start;
+        if let Some(line) = self.host.line() {
+            self.lines.push_reserved(line);
+        }
+        match action {
+            Action::Device(call) => self.last = ask_device(core, device, held, unplugged, call)?,
+            Action::Space(SpaceCall::Online { block }) => {
+                self.last = put_online(core, space, held, free, block);
+            }
+            Action::Ended => self.ended = true,
+            // the host makes no step on a word, and leases no frame
+            Action::Step(_) | Action::Move(_) | Action::Space(_) => {}
+        }
+        Ok(())
+    }
+}
