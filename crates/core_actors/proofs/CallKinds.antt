@@ -18,7 +18,7 @@ use Rattle.core_state.specs.declared.step.Step.TheVariants.{Take, Draw, Load, St
 use Rattle.core_state.specs.declared.step.MoveStep.TheVariants.{Unmap}
 use Rattle.core_actors.specs.declared.action.Action.{Action}
 use Rattle.core_actors.specs.declared.action.Action.TheVariants as actions
-use Rattle.core_actors.specs.declared.action.SpaceCall.TheVariants.{Lease, Return}
+use Rattle.core_actors.specs.declared.action.SpaceCall.TheVariants.{Lease, Return, Online}
 use Rattle.core_actors.specs.declared.action.LeaseSeen.{LeaseSeen}
 use Rattle.core_actors.specs.declared.action.LeaseSeen.TheVariants.{NotAsked, Got, Refused}
 use Rattle.core_actors.specs.CallSteps.{is_freed, load_count, load_steps, store_steps, cell_steps, middle_steps, zeroing, as_actions, lead_actions, map_actions, mapping_actions, call_actions}
@@ -78,6 +78,8 @@ LeadIs i (actions.Step s) = IsWriting s
 LeadIs i (actions.Move m) = ⊥
 LeadIs i (actions.Space (Lease page kind)) = i ≡ 0
 LeadIs i (actions.Space (Return frame)) = ⊥
+LeadIs i (actions.Space (Online block)) = ⊥
+LeadIs i (actions.Device call) = ⊥
 LeadIs i actions.Ended = ⊥
 
 pub lead_is : (cells : ℕ) (page : PageNo) (call : Call) (lease : LeaseSeen) (i : ℕ) (t : Action) → slice_get (lead_actions cells page call lease) i ≡ Some t → LeadIs i t
@@ -124,6 +126,7 @@ abbrev pub BehindIs : (n i : ℕ) → Action → Type 0
 BehindIs n i (actions.Step s) = StepIs n i s
 BehindIs n i (actions.Move m) = n ≤ i
 BehindIs n i (actions.Space call) = ⊥
+BehindIs n i (actions.Device call) = ⊥
 BehindIs n i actions.Ended = ⊥
 
 step_later : (n i : ℕ) (s : Step) → StepIs n i s → StepIs (suc n) (suc i) s

@@ -31,7 +31,7 @@ use Rattle.core_actors.specs.declared.action.Heard.TheVariants.{Nothing, Leased,
 use Rattle.core_actors.specs.declared.action.LeaseSeen.{LeaseSeen}
 use Rattle.core_actors.specs.declared.action.LeaseSeen.TheVariants.{NotAsked, Got, Refused}
 use Rattle.core_actors.specs.declared.action.SpaceCall.{SpaceCall}
-use Rattle.core_actors.specs.declared.action.SpaceCall.TheVariants.{Lease, Return}
+use Rattle.core_actors.specs.declared.action.SpaceCall.TheVariants.{Lease, Return, Online}
 use Rattle.core_actors.specs.CallSteps.{first_cell, values_of, lead_actions, leased_frame}
 use Rattle.core_actors.specs.Owners.{OwnerState, owner_ended, next_action, one_made, word_in, after_step, after_action, owner_after}
 use Rattle.core_actors.specs.Actions.{heard_by}
@@ -51,11 +51,13 @@ use Rattle.core_actors.proofs.FitMoves.{fits_map, fits_unmap}
 abbrev space_number : SpaceCall → ℕ
 space_number (Lease page kind) = 2
 space_number (Return frame) = 3
+space_number (Online block) = 5
 
 abbrev action_number : Action → ℕ
 action_number (actions.Step step) = 0
 action_number (actions.Move step) = 1
 action_number (actions.Space call) = space_number call
+action_number (actions.Device call) = 6
 action_number actions.Ended = 4
 
 pub same_number : (x y z : Action) → x ≡ y → x ≡ z → action_number y ≡ action_number z
@@ -65,12 +67,14 @@ abbrev pub step_in : Action → Step
 step_in (actions.Step step) = step
 step_in (actions.Move step) = Draw
 step_in (actions.Space call) = Draw
+step_in (actions.Device call) = Draw
 step_in actions.Ended = Draw
 
 abbrev move_in : Action → MoveStep
 move_in (actions.Step step) = Moving
 move_in (actions.Move step) = step
 move_in (actions.Space call) = Moving
+move_in (actions.Device call) = Moving
 move_in actions.Ended = Moving
 
 abbrev returned_in : Action → FrameNo
@@ -78,6 +82,8 @@ returned_in (actions.Step step) = record { 0 = 0 }
 returned_in (actions.Move step) = record { 0 = 0 }
 returned_in (actions.Space (Lease page kind)) = record { 0 = 0 }
 returned_in (actions.Space (Return frame)) = frame
+returned_in (actions.Space (Online block)) = record { 0 = 0 }
+returned_in (actions.Device call) = record { 0 = 0 }
 returned_in actions.Ended = record { 0 = 0 }
 
 -- a fact of a call and a lease that are known

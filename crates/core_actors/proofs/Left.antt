@@ -15,9 +15,9 @@ use Rattle.core_state.specs.declared.step.Step.TheVariants.{Take, Draw, Load, St
 use Rattle.core_actors.specs.declared.action.Action.{Action}
 use Rattle.core_actors.specs.declared.action.Action.TheVariants as actions
 use Rattle.core_actors.specs.declared.action.Heard.{Heard}
-use Rattle.core_actors.specs.declared.action.Heard.TheVariants.{Start, Word, Nothing, Leased, NoFrame}
+use Rattle.core_actors.specs.declared.action.Heard.TheVariants.{Start, Word, Nothing, Leased, NoFrame, Device}
 use Rattle.core_actors.specs.declared.action.LeaseSeen.{LeaseSeen}
-use Rattle.core_actors.specs.declared.action.SpaceCall.TheVariants.{Lease, Return}
+use Rattle.core_actors.specs.declared.action.SpaceCall.TheVariants.{Lease, Return, Online}
 use Rattle.core_actors.specs.CallSteps.{IsCallOf}
 use Rattle.core_actors.specs.Owners.{OwnerState, owner_at_start, owner_ended, next_action, word_in, after_action, owner_after}
 use Rattle.core_actors.specs.Counts.{most_actions, actions_left, IsUnderWay, FindsTaken}
@@ -55,6 +55,7 @@ taken_hears (Word word) taken = refl
 taken_hears Nothing taken = absurd (omega arith)
 taken_hears (Leased frame) taken = absurd (omega arith)
 taken_hears (NoFrame at) taken = absurd (omega arith)
+taken_hears (Device heard) taken = absurd (omega arith)
 
 module _ (owner cells : ℕ) (c : PageNo × Call) (cs : List (PageNo × Call)) (lease : LeaseSeen) (found : ℕ) (loads : List ℕ) (made : ℕ) (way : IsUnderWay (in_call owner cells c cs lease found loads made)) where
   abbrev here : OwnerState
@@ -82,6 +83,8 @@ module _ (owner cells : ℕ) (c : PageNo × Call) (cs : List (PageNo × Call)) (
   fewer_after (actions.Move step) heard at free = let sum = sum_by-cons (λ (x : PageNo × Call). most_actions cells x.1) c cs in let below = below_most in omega arith
   fewer_after (actions.Space (Lease page kind)) heard at free = let sum = sum_by-cons (λ (x : PageNo × Call). most_actions cells x.1) c cs in let below = below_most in omega arith
   fewer_after (actions.Space (Return frame)) heard at free = absurd at
+  fewer_after (actions.Space (Online block)) heard at free = absurd at
+  fewer_after (actions.Device call) heard at free = absurd at
   fewer_after actions.Ended heard at free = absurd at
 
 module _ (owner cells : ℕ) (lease : LeaseSeen) (found : ℕ) (loads : List ℕ) (made : ℕ) where

@@ -14,8 +14,8 @@ use Rattle.core_state.specs.declared.step.Step.TheVariants.{Take, Draw, Load, St
 use Rattle.core_actors.specs.declared.action.Action.{Action}
 use Rattle.core_actors.specs.declared.action.Action.TheVariants as actions
 use Rattle.core_actors.specs.declared.action.Heard.{Heard}
-use Rattle.core_actors.specs.declared.action.Heard.TheVariants.{Start, Word, Nothing, Leased, NoFrame}
-use Rattle.core_actors.specs.declared.action.SpaceCall.TheVariants.{Lease, Return}
+use Rattle.core_actors.specs.declared.action.Heard.TheVariants.{Start, Word, Nothing, Leased, NoFrame, Device}
+use Rattle.core_actors.specs.declared.action.SpaceCall.TheVariants.{Lease, Return, Online}
 use Rattle.core_actors.specs.declared.action.LeaseSeen.{LeaseSeen}
 use Rattle.core_actors.specs.declared.action.LeaseSeen.TheVariants.{NotAsked}
 use Rattle.core_actors.specs.CallSteps.{IsCallOf, load_count, call_actions}
@@ -42,6 +42,7 @@ heard_unless_start a (Word word) other = refl
 heard_unless_start a Nothing other = refl
 heard_unless_start a (Leased frame) other = refl
 heard_unless_start a (NoFrame at) other = refl
+heard_unless_start a (Device heard) other = refl
 
 -- ---- its place
 
@@ -82,6 +83,8 @@ module _ (owner cells : ℕ) (c : PageNo × Call) (cs : List (PageNo × Call)) (
         let some = way.1 in
         (omega arith, omega arith)
     after_lead (actions.Space (Return frame)) lt is = absurd is
+    after_lead (actions.Space (Online block)) lt is = absurd is
+    after_lead (actions.Device call) lt is = absurd is
     after_lead actions.Ended lt is = absurd is
 
     after_behind : (t : Action) (i : ℕ) → made ≡ leading cells c lease found loads + 2 + i → i < length (actions_behind c.1 lease found loads) → BehindIs (load_count c.1) i t → IsPlaced (after_action (at_call None) heard t)
@@ -108,6 +111,7 @@ module _ (owner cells : ℕ) (c : PageNo × Call) (cs : List (PageNo × Call)) (
         let some = way.1 in
         (omega arith, omega arith)
     after_behind (actions.Space call) i e lt is = absurd is
+    after_behind (actions.Device call) i e lt is = absurd is
     after_behind actions.Ended i e lt is = absurd is
 
     after_kind : (t : Action) → t ≡ action_with cells c lease found loads made → ActionKind cells c lease found loads made → IsPlaced (after_action (at_call None) heard t)
@@ -259,6 +263,8 @@ not_last a (actions.Step (Release end)) some others = absurd (others end refl)
 not_last a (actions.Move step) some others = rw some refl
 not_last a (actions.Space (Lease page kind)) some others = rw some refl
 not_last a (actions.Space (Return frame)) some others = rw some refl
+not_last a (actions.Space (Online block)) some others = rw some refl
+not_last a (actions.Device call) some others = rw some refl
 not_last a actions.Ended some others = rw some refl
 
 pub goes_on_without_release : (a : OwnerState) (t : Action) → are_none a.left ≡ false → t ≡ action_of a → ((end : Option CallDone) → t ≡ actions.Step (Release end) → ⊥) → ends_with_next a ≡ false
@@ -275,6 +281,8 @@ not_yet a (actions.Step (Release end)) some more = rw more refl
 not_yet a (actions.Move step) some more = rw some refl
 not_yet a (actions.Space (Lease page kind)) some more = rw some refl
 not_yet a (actions.Space (Return frame)) some more = rw some refl
+not_yet a (actions.Space (Online block)) some more = rw some refl
+not_yet a (actions.Device call) some more = rw some refl
 not_yet a actions.Ended some more = rw some refl
 
 pub goes_on : (a : OwnerState) → are_none a.left ≡ false → are_none (drop 1 a.left) ≡ false → ends_with_next a ≡ false

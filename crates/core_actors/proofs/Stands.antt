@@ -16,7 +16,7 @@ use Rattle.core_actors.specs.declared.action.Action.{Action}
 use Rattle.core_actors.specs.declared.action.Action.TheVariants as actions
 use Rattle.core_actors.specs.declared.action.LeaseSeen.{LeaseSeen}
 use Rattle.core_actors.specs.declared.action.LeaseSeen.TheVariants.{NotAsked, Got, Refused}
-use Rattle.core_actors.specs.declared.action.SpaceCall.TheVariants.{Lease, Return}
+use Rattle.core_actors.specs.declared.action.SpaceCall.TheVariants.{Lease, Return, Online}
 use Rattle.core_actors.specs.CallSteps.{load_count, is_freed, reply_of, store_steps, cell_steps, middle_steps, zero_steps, zeroing, as_actions, lead_actions, map_actions, mapping_actions, call_actions, frame_back, leased_frame}
 use Rattle.core_actors.specs.Counts.{most_actions, returns_left}
 use Rattle.core_actors.proofs.PlacesOf.{AllFrom, all-append, all-at, steps-append, loads-all, stores-all, zeros-all, length-load_steps, length-store_steps}
@@ -45,6 +45,8 @@ Stands call lead total made (actions.Step (Release end)) = made + 1 ≡ total
 Stands call lead total made (actions.Move step) = Between call made total
 Stands call lead total made (actions.Space (Lease page kind)) = (made ≡ 0) × IsAlloc call
 Stands call lead total made (actions.Space (Return frame)) = ⊥
+Stands call lead total made (actions.Space (Online block)) = ⊥
+Stands call lead total made (actions.Device asked) = ⊥
 Stands call lead total made actions.Ended = ⊥
 
 pub length-zero_steps : (cells : ℕ) (frame : FrameNo) → length (as_actions (zero_steps cells frame)) ≡ cells + 1

@@ -17,7 +17,7 @@ use Rattle.core_actors.specs.declared.action.Heard.{Heard}
 use Rattle.core_actors.specs.declared.action.Heard.TheVariants.{Nothing, Leased, NoFrame}
 use Rattle.core_actors.specs.declared.action.LeaseSeen.{LeaseSeen}
 use Rattle.core_actors.specs.declared.action.LeaseSeen.TheVariants.{NotAsked}
-use Rattle.core_actors.specs.declared.action.SpaceCall.TheVariants.{Lease, Return}
+use Rattle.core_actors.specs.declared.action.SpaceCall.TheVariants.{Lease, Return, Online}
 use Rattle.core_actors.specs.CallSteps.{load_count, lead_actions, call_actions}
 use Rattle.core_actors.specs.Owners.{OwnerState, before_call, next_action, word_in, lease_in, after_step, after_action, owner_after}
 use Rattle.core_actors.specs.Counts.{HeardOfLease, IsUnderWayIn, IsUnderWay}
@@ -140,6 +140,8 @@ IsLease (actions.Step step) = ⊥
 IsLease (actions.Move step) = ⊥
 IsLease (actions.Space (Lease page kind)) = Unit {0}
 IsLease (actions.Space (Return frame)) = ⊥
+IsLease (actions.Space (Online block)) = ⊥
+IsLease (actions.Device call) = ⊥
 IsLease actions.Ended = ⊥
 
 module _ (owner cells : ℕ) (c : PageNo × Call) (cs : List (PageNo × Call)) (lease : LeaseSeen) (found : ℕ) (loads : List ℕ) (made : ℕ) where
@@ -149,6 +151,8 @@ module _ (owner cells : ℕ) (c : PageNo × Call) (cs : List (PageNo × Call)) (
   after_action-way (actions.Move step) heard fits at way = between-way owner cells c cs lease found loads made at way
   after_action-way (actions.Space (Lease page kind)) heard fits at way = after_lease-way owner cells c cs lease found loads made (lease_in heard) (fits tt) way at.0 at.1
   after_action-way (actions.Space (Return frame)) heard fits at way = absurd at
+  after_action-way (actions.Space (Online block)) heard fits at way = absurd at
+  after_action-way (actions.Device call) heard fits at way = absurd at
   after_action-way actions.Ended heard fits at way = absurd at
 
 module _ (owner cells : ℕ) (lease : LeaseSeen) (found : ℕ) (loads : List ℕ) (made : ℕ) where
