@@ -1,6 +1,8 @@
 //! The report of a run, and its text.
 #![tactic(auto)]
 
+mod device_text;
+mod host_text;
 mod report;
 mod space_text;
 mod text;

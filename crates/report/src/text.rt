@@ -1,14 +1,15 @@
 //! The report's text: lines of words, each word but the first behind a space.
 
-ghost use Rattle.std.specs.Prelude.{◌≡◌, List, [], ◌∷◌, ◌++◌, ℕ, codes, map, OnOk, IfOk};
+ghost use Rattle.std.specs.Prelude.{◌≡◌, [], ◌∷◌, ◌++◌, OnOk, IfOk};
 ghost use Rattle.std.specs.List.{flat_map};
 ghost use Rattle.std.specs.Fmt.{decimal};
 ghost use Rattle.evac_model.specs.Spelling.{call_words};
 ghost use Rattle.report.specs.ReportText.{behind_space, HaveStates, reply_words, entry_text, plugged_text, cell_words, page_text, report_text};
 
+use crate::host_text::put_runs;
 use crate::report::{FinalPage, Report};
-use crate::space_text::put_actions;
 use crate::words::{put_kind, put_number, put_numbers, put_word};
+use crate::{device_text, space_text};
 use evac_model::{BlockNo, ByteList, Call, Entry, OutOfMemory, PageNo, Reply};
 use itoa::Buffer;
 use std::alloc::{AllocError, Global};
@@ -146,10 +147,13 @@ fn put_pages(out: &mut Vec<u8>, pages: &[FinalPage]) -> Result<(), AllocError>
 }
 
 fn put_report(out: &mut Vec<u8>, report: &Report) -> Result<(), AllocError>
+    requires { HaveStates report.now }
     ensures { OnOk result (out.new.items ≡ out.old.items ++ report_text report.now) }
 {
     put_entries(out, report.history.as_slice())?;
-    put_actions(out, report.space_journal.as_slice())?;
+    put_runs(out, report.host.as_slice())?;
+    space_text::put_actions(out, report.space_journal.as_slice())?;
+    device_text::put_actions(out, report.device_journal.as_slice())?;
     put_plugged(out, report.plugged.as_slice())?;
     put_pages(out, report.pages.as_slice())?;
     out.extend_from_slice(b"end\n")

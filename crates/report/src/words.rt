@@ -1,13 +1,16 @@
 //! Words of a line, each behind a space.
 
-ghost use Rattle.std.specs.Prelude.{◌≡◌, ◌++◌, map, OnOk};
+ghost use Rattle.std.specs.Prelude.{◌≡◌, ◌≤◌, ◌*◌, ◌++◌, length, map, OnOk};
 ghost use Rattle.std.specs.List.{flat_map};
 ghost use Rattle.std.specs.Fmt.{decimal};
+ghost use Rattle.hex.specs.Hex.{encode_lower};
+ghost use Rattle.mem_codec.specs.ResponseBytes.{response_bytes, HasState};
 ghost use Rattle.evac_model.specs.Spelling.{kind_word};
 ghost use Rattle.report.specs.ReportText.{behind_space};
 
-use evac_model::Kind;
+use evac_model::{Kind, Response};
 use itoa::Buffer;
+use mem_codec::write_response;
 use std::alloc::AllocError;
 
 /// Adds a space and a word.
@@ -44,4 +47,34 @@ pub fn put_kind(out: &mut Vec<u8>, kind: Kind) -> Result<(), AllocError>
         Kind::Movable => put_word(out, b"movable"),
         Kind::Unmovable => put_word(out, b"unmovable"),
     }
+}
+
+/// Writes bytes in lower-case hexadecimal, two digits for each.
+fn write_hex(bytes: &[u8], digits: &mut [u8])
+    requires { length digits.old ≡ 2 * length bytes.now }
+    ensures { digits.new ≡ encode_lower bytes.now }
+{
+    let written = hex::encode_to_slice(bytes, digits).is_ok();
+    prove!(written);
+}
+
+/// Adds a space and at most 64 bytes in hexadecimal.
+pub fn put_hex(out: &mut Vec<u8>, bytes: &[u8]) -> Result<(), AllocError>
+    requires { length bytes.now ≤ 64 }
+    ensures { OnOk result (out.new.items ≡ out.old.items ++ behind_space (encode_lower bytes.now)) }
+{
+    let mut buffer = [0; 128];
+    let digits = &mut buffer[..2 * bytes.len()];
+    write_hex(bytes, digits);
+    put_word(out, digits)
+}
+
+/// Adds a space and the bytes of a response in hexadecimal.
+pub fn put_response(out: &mut Vec<u8>, response: Response) -> Result<(), AllocError>
+    requires { HasState response }
+    ensures { OnOk result (out.new.items ≡ out.old.items ++ behind_space (encode_lower (response_bytes response))) }
+{
+    let mut bytes = [0; 10];
+    write_response(response, &mut bytes);
+    put_hex(out, &bytes)
 }
