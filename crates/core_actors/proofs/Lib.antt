@@ -28,3 +28,5 @@ pub mod Stands
 pub mod UnderWay
 pub mod Left
 pub mod Room
+pub mod HostCounts
+pub mod HostPlaces

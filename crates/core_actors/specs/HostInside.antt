@@ -1,5 +1,5 @@
 -- How a host is kept: its commands, and the place in them.
-use Rattle.std.specs.Prelude.{◌≡◌, ◌+◌, ◌≤◌, length, drop}
+use Rattle.std.specs.Prelude.{◌+◌, ◌≤◌, length, drop}
 use Rattle.core_actors.specs.declared.host.Host.TheInside.{Inside}
 use Rattle.core_actors.specs.Hosts.{HostState, HostView}
 

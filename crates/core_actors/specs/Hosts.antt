@@ -1,5 +1,5 @@
 -- How the host stands between its actions, which comes next, and how it stands after it.
-use Rattle.std.specs.Prelude.{◌≡◌, ◌↔◌, ℕ, suc, ◌+◌, ◌-◌, ◌*◌, ◌==◌, ◌<◌, ◌≤◌, Bool, true, false, if◌then◌else◌, List, [], ◌∷◌, drop, length, Option, None, Some, IsSome, is_some}
+use Rattle.std.specs.Prelude.{◌≡◌, ◌↔◌, ℕ, suc, ◌+◌, ◌-◌, ◌*◌, ◌==◌, ◌≤◌, Bool, true, false, if◌then◌else◌, List, [], ◌∷◌, drop, length, Option, None, Some, IsSome, is_some}
 use Rattle.std.specs.Option.{unwrap_or}
 use Rattle.evac_model.specs.declared.device.Response.TheVariants as responses
 use Rattle.evac_model.specs.declared.host.HostCommand.{HostCommand}

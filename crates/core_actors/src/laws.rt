@@ -1,4 +1,4 @@
-//! Laws of an owner's actions. Each function has an empty body: its contract is the law.
+//! Laws of the actions of owners and hosts. Each function has an empty body: its contract is the law.
 
 ghost use Rattle.std.specs.Prelude.{◌≡◌, ℕ, ◌+◌, ◌*◌, ◌<◌, ◌≤◌, ◌↔◌, List, [], map, length, true, false, None, Some, IsSome};
 ghost use Rattle.std.specs.List.{AllByRecursion, enumerate_from};
