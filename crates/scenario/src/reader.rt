@@ -42,9 +42,12 @@ fn with_line(alloc: Global, draft: Option<Draft>, line: Line) -> Result<Draft, R
     match draft {
         None => match line {
             Line::Machine(sizes) => Draft::new(alloc, sizes),
-            Line::Online(_) | Line::Page(_) | Line::Turns(_) | Line::Draw(_) | Line::Call(_) => {
-                Err(Refusal::Cause(LineCause::Order))
-            }
+            Line::Online(_)
+            | Line::Page(_)
+            | Line::Turns(_)
+            | Line::Draw(_)
+            | Line::Call(_)
+            | Line::Host(_) => Err(Refusal::Cause(LineCause::Order)),
         },
         Some(mut draft) => match line {
             Line::Machine(_) => Err(Refusal::Cause(LineCause::Order)),
@@ -66,6 +69,10 @@ fn with_line(alloc: Global, draft: Option<Draft>, line: Line) -> Result<Draft, R
             }
             Line::Call(call) => {
                 draft.add_call(alloc, call)?;
+                Ok(draft)
+            }
+            Line::Host(command) => {
+                draft.add_command(command)?;
                 Ok(draft)
             }
         },
