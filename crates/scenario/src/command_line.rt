@@ -6,13 +6,13 @@ ghost use Rattle.std.specs.List.{list_any};
 ghost use Rattle.std.specs.Result.{result_ok};
 ghost use Rattle.hex.specs.Hex.{decode_of};
 ghost use Rattle.scenario.specs.Words.{words_left};
-ghost use Rattle.scenario.specs.Reading.{Gives, hex_bytes, request_of, command_of};
+ghost use Rattle.scenario.specs.Reading.{hex_bytes, request_of, command_of};
 
 use crate::bounds::MOST_REQUEST_BYTES;
 use crate::words::{is_ended, split_word};
 use evac_model::{HostCommand, RequestBytes};
 
-/// Whether a byte is a capital letter.
+/// Whether one of the bytes is a capital letter.
 fn has_capital(word: &[u8]) -> bool
     ensures { result ≡ list_any is_ascii_uppercase word.now }
 {
