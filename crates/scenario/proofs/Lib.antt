@@ -7,10 +7,11 @@ pub mod Limits
 pub mod Drafts
 pub mod Numerals
 pub mod Marks
+pub mod Steps
+pub mod HexWords
 pub mod Spellings
 pub mod Names
 pub mod Askings
-pub mod Steps
 pub mod TurnWords
 pub mod Readings
 pub mod Verdicts

@@ -10,15 +10,18 @@ use Rattle.evac_model.specs.declared.names.Kind.{Kind}
 use Rattle.evac_model.specs.declared.names.Kind.TheVariants.{Movable, Unmovable}
 use Rattle.evac_model.specs.declared.call.Call.{Call}
 use Rattle.evac_model.specs.declared.call.Call.TheVariants as calls
+use Rattle.evac_model.specs.declared.host.HostCommand.{HostCommand}
+use Rattle.evac_model.specs.declared.host.HostCommand.TheVariants as commands
 use Rattle.evac_model.specs.declared.scenario.StartPage.{StartPage}
 use Rattle.evac_model.specs.declared.scenario.Drawn.{Drawn}
 use Rattle.evac_model.specs.Geometry.{Sizes}
-use Rattle.evac_model.specs.Spelling.{kind_word, online_word, call_words, turn_word, count_words}
-use Rattle.evac_model.specs.ScenarioLines.{Line, NamedTurn, MachineLine, OnlineLine, PageLine, TurnsLine, DrawLine, CallLine, words_of, IsNumber, HasNumbers, HasTurnNumbers, Fits}
+use Rattle.evac_model.specs.Spelling.{kind_word, online_word, call_words, turn_word, count_words, command_words}
+use Rattle.evac_model.specs.ScenarioLines.{Line, NamedTurn, MachineLine, OnlineLine, PageLine, TurnsLine, DrawLine, CallLine, CommandLine, words_of, IsNumber, HasNumbers, HasTurnNumbers, HasBytes, Fits}
 use Rattle.scenario.specs.Numbers.{number_of}
-use Rattle.scenario.specs.Reading.{◌>>=◌, number_at, kind_of, kind_at, online_of_word, online_at, ended, values_of, machine_of, online_kind_of, page_of, draw_of, turns_of, turns_line_of, count_at, alloc_of, read_of, write_of, add_of, named_call, call_of, call_line_of, plain_line_of, line_of}
+use Rattle.scenario.specs.Reading.{◌>>=◌, number_at, kind_of, kind_at, online_of_word, online_at, ended, values_of, machine_of, online_kind_of, page_of, draw_of, turns_of, turns_line_of, count_at, alloc_of, read_of, write_of, add_of, named_call, call_of, call_line_of, hex_bytes, request_of, command_of, plain_line_of, line_of}
 use Rattle.scenario.proofs.Numerals.{number_is, number_again}
 use Rattle.scenario.proofs.Names.{same_text}
+use Rattle.scenario.proofs.HexWords.{hex_is, hex_again}
 use Rattle.scenario.proofs.Steps.{bind_some, chosen, ended_is}
 use Rattle.scenario.proofs.TurnWords.{turns_read, turns_again}
 
@@ -304,11 +307,48 @@ call_line_read owner ws line lt e =
     let whole : decimal owner ∷ ws ≡ decimal owner ∷ count_words k.0.0 ++ call_words c.0.0 c.0.1 = ap (λ (t : List (List ℕ)). decimal owner ∷ t) (rk.0 ∙ ap (λ (t : List (List ℕ)). count_words k.0.0 ++ t) rc.0) in
     subst (λ (l : Line). Spelled (decimal owner ∷ ws) l) (same_Some (CallLine owner k.0.0 c.0.0 c.0.1) line c.2) (whole, (lt, rk.1, rc.1, rc.2))
 
+-- the words are those of a command
+abbrev Commanded : List (List ℕ) → HostCommand → Type 0
+Commanded ws c = (ws ≡ command_words c) × HasBytes c
+
+request_read : (ws : List (List ℕ)) (c : HostCommand) → request_of ws ≡ Some c → Commanded (codes "request" ∷ ws) c
+unfolding request_of
+request_read [] c e = absurd (none-some c e)
+request_read (word ∷ rest) c e =
+    let b = bind_some (hex_bytes word) _ c e in
+    let is = hex_is word b.0 b.1 in
+    elim (chosen (length b.0 == 0) None (ended (commands.Request b.0) rest) (Some c) b.2) [
+      | inl none ↦ absurd (none-some c none.1)
+      | inr some ↦
+          let made = ended_is (commands.Request b.0) c rest some.1 in
+          let nonzero = eqb-false (length b.0) 0 some.0 in
+          let at_least : 1 ≤ length b.0 = omega (arith, nonzero) in
+          let whole : codes "request" ∷ word ∷ rest ≡ command_words (commands.Request b.0) = rw (← is.spelled, made.0) refl in
+          subst (λ (d : HostCommand). Commanded (codes "request" ∷ word ∷ rest) d) made.1 (whole, (at_least, is.few, is.fit))
+    ]
+
+command_read : (ws : List (List ℕ)) (c : HostCommand) → command_of ws ≡ Some c → Commanded ws c
+unfolding command_of
+command_read [] c e = absurd (none-some c e)
+command_read (name ∷ rest) c e =
+    let configs = cond (bytes_eq name (codes "config")) (ended commands.Config rest) None in
+    elim (chosen (bytes_eq name (codes "request")) (request_of rest) configs (Some c) e) [
+      | inl h ↦ rw (same_text name (codes "request") h.0) (request_read rest c h.1)
+      | inr h ↦ elim (chosen (bytes_eq name (codes "config")) (ended commands.Config rest) None (Some c) h.1) [
+        | inl h ↦
+            let made = ended_is commands.Config c rest h.1 in
+            let whole : name ∷ rest ≡ codes "config" ∷ [] = rw (same_text name (codes "config") h.0, made.0) refl in
+            subst (λ (d : HostCommand). Commanded (name ∷ rest) d) made.1 (whole, tt)
+        | inr h ↦ absurd (none-some c h.1)
+      ]
+    ]
+
 plain_line_read : (word : List ℕ) (rest : List (List ℕ)) (line : Line) → plain_line_of word rest ≡ Some line → Spelled (word ∷ rest) line
 unfolding plain_line_of
 plain_line_read word rest line e =
     let owners = number_of word >>= λ owner. call_line_of owner rest in
-    let draws = cond (bytes_eq word (codes "draw")) (draw_of rest >>= λ draw. Some (DrawLine draw)) owners in
+    let hosts = cond (bytes_eq word (codes "host")) (command_of rest >>= λ command. Some (CommandLine command)) owners in
+    let draws = cond (bytes_eq word (codes "draw")) (draw_of rest >>= λ draw. Some (DrawLine draw)) hosts in
     let pages = cond (bytes_eq word (codes "page")) (page_of rest >>= λ page. Some (PageLine page)) draws in
     let onlines = cond (bytes_eq word (codes "online")) (online_kind_of rest >>= λ kind. Some (OnlineLine kind)) pages in
     elim (chosen (bytes_eq word (codes "machine")) (machine_of rest >>= λ sizes. Some (MachineLine sizes)) onlines (Some line) e) [
@@ -323,14 +363,20 @@ plain_line_read word rest line e =
           | inl h ↦
               let p = bind_some (page_of rest) (λ page. Some (PageLine page)) line h.1 in
               rw (same_text word (codes "page") h.0) (subst (λ (l : Line). Spelled (codes "page" ∷ rest) l) (same_Some (PageLine p.0) line p.2) (page_read rest p.0 p.1))
-          | inr h ↦ elim (chosen (bytes_eq word (codes "draw")) (draw_of rest >>= λ draw. Some (DrawLine draw)) owners (Some line) h.1) [
+          | inr h ↦ elim (chosen (bytes_eq word (codes "draw")) (draw_of rest >>= λ draw. Some (DrawLine draw)) hosts (Some line) h.1) [
             | inl h ↦
                 let d = bind_some (draw_of rest) (λ draw. Some (DrawLine draw)) line h.1 in
                 rw (same_text word (codes "draw") h.0) (subst (λ (l : Line). Spelled (codes "draw" ∷ rest) l) (same_Some (DrawLine d.0) line d.2) (draw_read rest d.0 d.1))
-            | inr h ↦
-                let owner = bind_some (number_of word) (λ owner. call_line_of owner rest) line h.1 in
-                let is = number_is word owner.0 owner.1 in
-                rw is.1 (call_line_read owner.0 rest line is.0 owner.2)
+            | inr h ↦ elim (chosen (bytes_eq word (codes "host")) (command_of rest >>= λ command. Some (CommandLine command)) owners (Some line) h.1) [
+              | inl h ↦
+                  let c = bind_some (command_of rest) (λ command. Some (CommandLine command)) line h.1 in
+                  let read = command_read rest c.0 c.1 in
+                  rw (same_text word (codes "host") h.0) (subst (λ (l : Line). Spelled (codes "host" ∷ rest) l) (same_Some (CommandLine c.0) line c.2) (ap (λ (t : List (List ℕ)). codes "host" ∷ t) read.0, read.1))
+              | inr h ↦
+                  let owner = bind_some (number_of word) (λ owner. call_line_of owner rest) line h.1 in
+                  let is = number_is word owner.0 owner.1 in
+                  rw is.1 (call_line_read owner.0 rest line is.0 owner.2)
+            ]
           ]
         ]
       ]
@@ -400,7 +446,12 @@ no_name n name lt none = false_from_ne_true (bytes_eq (decimal n) name) (λ e. n
 
 owner_again : (owner : ℕ) (rest : List (List ℕ)) → IsNumber owner → line_of (decimal owner ∷ rest) ≡ call_line_of owner rest
 unfolding line_of plain_line_of
-owner_again owner rest lt = rw (no_name owner (codes "turns") lt refl, no_name owner (codes "machine") lt refl, no_name owner (codes "online") lt refl, no_name owner (codes "page") lt refl, no_name owner (codes "draw") lt refl, number_again owner lt) refl
+owner_again owner rest lt = rw (no_name owner (codes "turns") lt refl, no_name owner (codes "machine") lt refl, no_name owner (codes "online") lt refl, no_name owner (codes "page") lt refl, no_name owner (codes "draw") lt refl, no_name owner (codes "host") lt refl, number_again owner lt) refl
+
+command_again : (c : HostCommand) → HasBytes c → command_of (command_words c) ≡ Some c
+unfolding command_of request_of
+command_again (commands.Request bytes) h = rw (hex_again bytes h.1 h.2, ne_eqb (length bytes) 0 (λ e. omega (arith, h.0))) refl
+command_again commands.Config h = refl
 
 pub line_again : (line : Line) → Fits line → line_of (words_of line) ≡ Some line
 unfolding line_of plain_line_of machine_of draw_of
@@ -411,3 +462,4 @@ line_again (TurnsLine turns) fits = turns_line_again turns fits.0 fits.1
 line_again (DrawLine d) fits = rw (number_again d.number fits.0, number_again d.count fits.1) refl
 line_again (CallLine owner count page call) fits =
     owner_again owner (count_words count ++ call_words page call) fits.0 ∙ call_line_again owner count page call fits.1 fits.2 fits.3
+line_again (CommandLine command) fits = ap (λ o. o >>= λ c. Some (CommandLine c)) (command_again command fits)

@@ -10,8 +10,11 @@ use Rattle.evac_model.specs.declared.names.Kind.TheVariants.{Movable, Unmovable}
 use Rattle.evac_model.specs.declared.call.Call.{Call}
 use Rattle.evac_model.specs.declared.call.Call.TheVariants.{Alloc, Free, Read, Write, Add, Pin, Unpin}
 use Rattle.evac_model.specs.declared.scenario.Actor.{Actor}
-use Rattle.evac_model.specs.Spelling.{kind_word, online_word, call_words, actor_word, turn_word, count_words, spaced}
-use Rattle.evac_model.specs.ScenarioLines.{Line, NamedTurn, MachineLine, OnlineLine, PageLine, TurnsLine, DrawLine, CallLine, words_of, IsNumber, HasNumbers, HasActorNumber, HasTurnNumbers, Fits, Spells, words}
+use Rattle.evac_model.specs.declared.host.HostCommand.{HostCommand}
+use Rattle.evac_model.specs.declared.host.HostCommand.TheVariants.{Request, Config}
+use Rattle.evac_model.specs.Spelling.{kind_word, online_word, call_words, actor_word, turn_word, count_words, command_words, spaced}
+use Rattle.evac_model.specs.ScenarioLines.{Line, NamedTurn, MachineLine, OnlineLine, PageLine, TurnsLine, DrawLine, CallLine, CommandLine, words_of, IsNumber, HasNumbers, HasActorNumber, HasTurnNumbers, HasBytes, Fits, Spells, words}
+use Rattle.scenario.proofs.HexWords.{hex_has_no_space}
 use Rattle.scenario.proofs.Marks.{HasNo, has_no, joined, number_has_no, space_no_digit, actor_has_no_space}
 
 -- no byte of the word is a space
@@ -63,6 +66,10 @@ counted_has_none : (count : Option ℕ) (words : List (List ℕ)) → IfSome cou
 counted_has_none None words h others = others
 counted_has_none (Some n) words h others = (joined 32 (codes "x") (decimal n) (no_space (codes "x") refl) (decimal_has_none n h), others)
 
+command_has_none : (command : HostCommand) → HasBytes command → AllByRecursion HasNoSpace (command_words command)
+command_has_none (Request bytes) h = (no_space (codes "request") refl, (hex_has_no_space bytes h.2, tt))
+command_has_none Config h = (no_space (codes "config") refl, tt)
+
 words-words_of : (line : Line) → Fits line → words (spaced (words_of line)) ≡ words_of line
 words-words_of (MachineLine s) h = words-spaced (codes "machine") (map decimal (s.cells ∷ s.block ∷ s.boot ∷ s.managed ∷ s.plugged ∷ s.pages ∷ [])) (no_space (codes "machine") refl) (decimals_have_none (s.cells ∷ s.block ∷ s.boot ∷ s.managed ∷ s.plugged ∷ s.pages ∷ []) h)
 words-words_of (OnlineLine kind) h = words-spaced (codes "online") (online_word kind ∷ []) (no_space (codes "online") refl) (online_has_none kind, tt)
@@ -70,6 +77,7 @@ words-words_of (PageLine p) h = words-spaced (codes "page") (decimal p.page.0 �
 words-words_of (TurnsLine turns) h = words-spaced (codes "turns") (map (λ t. turn_word t.actor t.count) turns) (no_space (codes "turns") refl) (turns_have_none turns h.1)
 words-words_of (DrawLine d) h = words-spaced (codes "draw") (decimal d.number ∷ decimal d.count ∷ []) (no_space (codes "draw") refl) (decimal_has_none d.number h.0, (decimal_has_none d.count h.1, tt))
 words-words_of (CallLine owner count page call) h = words-spaced (decimal owner) (count_words count ++ call_words page call) (decimal_has_none owner h.0) (counted_has_none count (call_words page call) h.1 (call_has_none page call h.2 h.3))
+words-words_of (CommandLine command) h = words-spaced (codes "host") (command_words command) (no_space (codes "host") refl) (command_has_none command h)
 
 -- a text spells a line if and only if its words do
 pub spelled_words : (text : List ℕ) (line : Line) → Spells text line → words text ≡ words_of line

@@ -1,11 +1,16 @@
 -- Reading the words of a line from left to right.
-use Rattle.std.specs.Prelude.{◌≡◌, ℕ, zero, suc, ◌==◌, List, [], ◌∷◌, length, map, codes, Option, None, Some, if◌then◌else◌}
-use Rattle.std.specs.List.{slice_split}
+use Rattle.std.specs.Prelude.{◌≡◌, ℕ, zero, suc, ◌==◌, ◌||◌, nat_lt, List, [], ◌∷◌, length, map, codes, Option, None, Some, if◌then◌else◌}
+use Rattle.std.specs.Char.{is_ascii_uppercase}
+use Rattle.std.specs.List.{slice_split, list_any}
+use Rattle.std.specs.Result.{result_ok}
 use Rattle.std.specs.Str.{bytes_eq}
+use Rattle.hex.specs.Hex.{decode_of}
 use Rattle.evac_model.specs.declared.names.Kind.{Kind}
 use Rattle.evac_model.specs.declared.names.Kind.TheVariants.{Movable, Unmovable}
 use Rattle.evac_model.specs.declared.call.Call.{Call}
 use Rattle.evac_model.specs.declared.call.Call.TheVariants as calls
+use Rattle.evac_model.specs.declared.host.HostCommand.{HostCommand}
+use Rattle.evac_model.specs.declared.host.HostCommand.TheVariants as commands
 use Rattle.evac_model.specs.declared.scenario.StartPage.{StartPage}
 use Rattle.evac_model.specs.declared.scenario.Actor.{Actor}
 use Rattle.evac_model.specs.declared.scenario.Actor.TheVariants.{Owner, Host, Scanner}
@@ -72,6 +77,9 @@ plain_call Unpin = calls.Unpin
 abbrev pub call_in : CallLine → grammar.Line
 call_in l = grammar.CallLine l.owner l.count l.page (plain_call l.call)
 
+abbrev pub command_line_in : HostCommand → grammar.Line
+command_line_in command = grammar.CommandLine command
+
 abbrev pub line_in : Line → grammar.Line
 line_in (kept.Machine l) = machine_in l
 line_in (kept.Online kind) = online_line_in kind
@@ -79,6 +87,7 @@ line_in (kept.Page l) = page_line_in l
 line_in (kept.Turns l) = turns_in l
 line_in (kept.Draw l) = draw_line_in l
 line_in (kept.Call l) = call_in l
+line_in (kept.Host command) = command_line_in command
 
 -- ---- reading
 
@@ -257,6 +266,27 @@ call_line_of owner words = do
   call ← call_of count.1
   Some (grammar.CallLine owner count.0 call.0 call.1)
 
+-- ---- commands of the host
+
+-- the bytes that a word writes in lower-case hexadecimal, at most 64; proofs/HexWords.antt ties it to `encode_lower`
+abbrev pub hex_bytes : List ℕ → Option (List ℕ)
+hex_bytes word = if nat_lt 128 (length word) || list_any is_ascii_uppercase word then None else result_ok (decode_of word)
+
+-- at least one byte
+unfoldable pub request_of : List (List ℕ) → Option HostCommand
+request_of [] = None
+request_of (word ∷ rest) = do
+  bytes ← hex_bytes word
+  if length bytes == 0 then None else ended (commands.Request bytes) rest
+
+-- the command behind the word of the host
+unfoldable pub command_of : List (List ℕ) → Option HostCommand
+command_of [] = None
+command_of (name ∷ rest) =
+    if bytes_eq name (codes "request") then request_of rest
+    else if bytes_eq name (codes "config") then ended commands.Config rest
+    else None
+
 -- ---- lines
 
 -- the line of a first word and the words behind it, where it isn't one of turns
@@ -266,6 +296,7 @@ plain_line_of word rest =
     else if bytes_eq word (codes "online") then (online_kind_of rest >>= λ kind. Some (grammar.OnlineLine kind))
     else if bytes_eq word (codes "page") then (page_of rest >>= λ page. Some (grammar.PageLine page))
     else if bytes_eq word (codes "draw") then (draw_of rest >>= λ draw. Some (grammar.DrawLine draw))
+    else if bytes_eq word (codes "host") then (command_of rest >>= λ command. Some (grammar.CommandLine command))
     else (number_of word >>= λ owner. call_line_of owner rest)
 
 unfoldable pub line_of : List (List ℕ) → Option grammar.Line

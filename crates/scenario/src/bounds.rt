@@ -8,3 +8,9 @@ pub const MOST_CALLS: u64 = 1 << 20;
 
 /// The most named turns, and the most drawn ones.
 pub const MOST_TURNS: u64 = 1 << 24;
+
+/// The most commands of the host.
+pub const MOST_COMMANDS: usize = 256;
+
+/// The most bytes of a request.
+pub const MOST_REQUEST_BYTES: usize = 64;

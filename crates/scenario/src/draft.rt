@@ -7,7 +7,7 @@ ghost use Rattle.evac_model.specs.ScenarioGrammar.{with_calls, call_count};
 ghost use Rattle.scenario.specs.Reading.{sizes_in};
 ghost use Rattle.scenario.specs.Judging.{scripts};
 
-use crate::bounds::{MOST_CALLS, MOST_OWNERS, MOST_TURNS};
+use crate::bounds::{MOST_CALLS, MOST_COMMANDS, MOST_OWNERS, MOST_TURNS};
 use crate::call_line::CallLine;
 use crate::error::Refusal;
 use crate::line::{DrawLine, MachineLine, PageLine};
@@ -16,8 +16,8 @@ use crate::table::NumberTable;
 use crate::turn_line::TurnsLine;
 use crate::turns::{plain_turns, turns_with};
 use evac_model::{
-    Call, CallList, Drawn, FrameNo, Geometry, Kind, LineCause, Listed, PageNo, Scenario, StartPage,
-    Turn,
+    Call, CallList, Drawn, FrameNo, Geometry, HostCommand, Kind, LineCause, Listed, PageNo,
+    Scenario, StartPage, Turn,
 };
 use std::alloc::{AllocError, Global};
 use std::marker::Model;
@@ -35,6 +35,7 @@ pub struct Draft {
     drawn: Option<Drawn>,
     owners: Vec<Vec<(PageNo, Call)>>,
     calls: u64,
+    host: Vec<HostCommand>,
 }
 
 /// Whether a frame is there at the start.
@@ -102,7 +103,7 @@ impl Model for Draft {
 impl Draft {
     ghost use Rattle.std.specs.Prelude.{◌≡◌, ◌↔◌, IsTrue, IfOk, MatchResult, None, Some};
     ghost use Rattle.evac_model.specs.ScenarioGrammar.{IsFreeFor};
-    ghost use Rattle.scenario.specs.Reading.{page_in, machine_in, online_line_in, page_line_in, turns_in, draw_line_in, call_in};
+    ghost use Rattle.scenario.specs.Reading.{page_in, machine_in, online_line_in, page_line_in, turns_in, draw_line_in, call_in, command_line_in};
     ghost use Rattle.scenario.specs.Judging.{Adds, RefusesReadLine};
 
     /// The scenario of a machine line alone.
@@ -123,6 +124,7 @@ impl Draft {
             drawn: None,
             owners: Vec::new(alloc),
             calls: 0,
+            host: Vec::new(alloc),
         })
     }
 
@@ -232,6 +234,17 @@ impl Draft {
         Ok(())
     }
 
+    /// Adds a command of the host.
+    pub fn add_command(&mut self, command: HostCommand) -> Result<(), Refusal>
+        ensures { MatchResult result (λ _. Adds (Some self.old) (command_line_in command) self.new) (RefusesReadLine (Some self.old) (command_line_in command)) }
+    {
+        if self.host.len() >= MOST_COMMANDS {
+            return Err(Refusal::Cause(LineCause::Count));
+        }
+        self.host.push(command)?;
+        Ok(())
+    }
+
     /// The scenario.
     pub fn finish(self, alloc: Global) -> Result<Scenario, AllocError>
         ensures { IfOk result (λ s. s ≡ self) }
@@ -247,6 +260,7 @@ impl Draft {
             drawn,
             owners,
             calls: _,
+            host,
         } = self;
         let owners: Vec<CallList> = owners
             .into_iter()
@@ -259,6 +273,7 @@ impl Draft {
             named: Listed::from_vec(named),
             drawn,
             owners: Listed::from_vec(owners),
+            host: Listed::from_vec(host),
         })
     }
 }

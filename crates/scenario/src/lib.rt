@@ -1,11 +1,12 @@
 //! Reads scenarios: the machine, what its managed blocks are online for, the pages of its start, the
-//! turns that are named or drawn, and a script for each owner.
+//! turns that are named or drawn, a script for each owner, and the host's commands.
 #![tactic(auto)]
 
 mod ask;
 mod bounds;
 mod bytes;
 mod call_line;
+mod command_line;
 mod draft;
 mod error;
 mod fields;
@@ -22,8 +23,9 @@ mod words;
 
 pub use error::ScenarioError;
 pub use evac_model::{
-    Actor, Call, CallList, Cells, Drawn, FrameNo, Geometry, Kind, LineCause, Listed, PageNo,
-    Scenario, ScenarioFault, ScriptList, StartPage, StartPageList, Turn, TurnList,
+    Actor, Call, CallList, Cells, CommandList, Drawn, FrameNo, Geometry, HostCommand, Kind,
+    LineCause, Listed, PageNo, RequestBytes, Scenario, ScenarioFault, ScriptList, StartPage,
+    StartPageList, Turn, TurnList,
 };
 pub use laws::texts_are_judged_once;
 pub use reader::read_scenario;

@@ -6,11 +6,12 @@ ghost use Rattle.scenario.specs.Words.{words_left};
 ghost use Rattle.scenario.specs.Reading.{Gives, sizes_in, page_in, draw_in, line_in, machine_of, online_kind_of, page_of, draw_of, plain_line_of, line_of};
 
 use crate::call_line::{CallLine, call_line_of};
+use crate::command_line::command_of;
 use crate::fields::{kind_at, number_at, online_at};
 use crate::number::number;
 use crate::turn_line::{TurnsLine, turns_line_of};
 use crate::words::{is_ended, split_word};
-use evac_model::Kind;
+use evac_model::{HostCommand, Kind};
 use std::alloc::{AllocError, Global};
 
 /// The sizes that a machine line gives.
@@ -49,6 +50,8 @@ pub enum Line {
     Turns(TurnsLine),
     Draw(DrawLine),
     Call(CallLine),
+    /// A command of the host.
+    Host(HostCommand),
 }
 
 /// The line that a text spells, if it spells one.
@@ -82,6 +85,9 @@ fn plain_line_of(word: &[u8], rest: Option<&[u8]>) -> Option<Line>
     }
     if word == b"draw".as_slice() {
         return Some(Line::Draw(draw_of(rest)?));
+    }
+    if word == b"host".as_slice() {
+        return Some(Line::Host(command_of(rest)?));
     }
     let owner = number(word)?;
     Some(Line::Call(call_line_of(owner, rest)?))

@@ -1,6 +1,6 @@
 //! A scenario from its text.
 
-ghost use Rattle.std.specs.Prelude.{◌≡◌, ◌⊎◌, Err, IfOk, MatchResult, Ok};
+ghost use Rattle.std.specs.Prelude.{◌≡◌, ◌⊎◌, Err, IfOk, MatchResult, Ok, Some};
 ghost use Rattle.evac_model.specs.declared.scenario.Scenario.{Scenario};
 ghost use Rattle.evac_model.specs.declared.scenario.ScenarioFault.{ScenarioFault};
 ghost use Rattle.evac_model.specs.ScenarioGrammar.{Reads, IsScenarioText, IsRefused};
@@ -35,6 +35,21 @@ fn read_line(alloc: Global, text: &[u8]) -> Result<Line, Refusal>
     }
 }
 
+/// Adds a line behind others, of which the first was the machine's.
+fn add_line(alloc: Global, draft: &mut Draft, line: Line) -> Result<(), Refusal>
+    ensures { MatchResult result (λ _. Adds (Some draft.old) (line_in line) draft.new) (RefusesReadLine (Some draft.old) (line_in line)) }
+{
+    match line {
+        Line::Machine(_) => Err(Refusal::Cause(LineCause::Order)),
+        Line::Online(online) => draft.add_online(online),
+        Line::Page(page) => draft.add_page(page),
+        Line::Turns(turns) => draft.add_turns(alloc, turns),
+        Line::Draw(draw) => draft.add_draw(draw),
+        Line::Call(call) => draft.add_call(alloc, call),
+        Line::Host(command) => draft.add_command(command),
+    }
+}
+
 /// What the lines make with one more.
 fn with_line(alloc: Global, draft: Option<Draft>, line: Line) -> Result<Draft, Refusal>
     ensures { MatchResult result (Adds draft (line_in line)) (RefusesReadLine draft (line_in line)) }
@@ -42,33 +57,17 @@ fn with_line(alloc: Global, draft: Option<Draft>, line: Line) -> Result<Draft, R
     match draft {
         None => match line {
             Line::Machine(sizes) => Draft::new(alloc, sizes),
-            Line::Online(_) | Line::Page(_) | Line::Turns(_) | Line::Draw(_) | Line::Call(_) => {
-                Err(Refusal::Cause(LineCause::Order))
-            }
+            Line::Online(_)
+            | Line::Page(_)
+            | Line::Turns(_)
+            | Line::Draw(_)
+            | Line::Call(_)
+            | Line::Host(_) => Err(Refusal::Cause(LineCause::Order)),
         },
-        Some(mut draft) => match line {
-            Line::Machine(_) => Err(Refusal::Cause(LineCause::Order)),
-            Line::Online(online) => {
-                draft.add_online(online)?;
-                Ok(draft)
-            }
-            Line::Page(page) => {
-                draft.add_page(page)?;
-                Ok(draft)
-            }
-            Line::Turns(turns) => {
-                draft.add_turns(alloc, turns)?;
-                Ok(draft)
-            }
-            Line::Draw(draw) => {
-                draft.add_draw(draw)?;
-                Ok(draft)
-            }
-            Line::Call(call) => {
-                draft.add_call(alloc, call)?;
-                Ok(draft)
-            }
-        },
+        Some(mut draft) => {
+            add_line(alloc, &mut draft, line)?;
+            Ok(draft)
+        }
     }
 }
 

@@ -6,7 +6,7 @@ use std::test::*;
 const MACHINE: &str = "machine 2 4 2 4 4 8\n";
 
 /// Texts behind the machine line, and the cause by which their first line is refused.
-const SECOND_LINES: [(&str, LineCause); 36] = [
+const SECOND_LINES: [(&str, LineCause); 33] = [
     ("1 read 0 1 2", LineCause::Range),
     ("05 read 0 0 1", LineCause::Word),
     ("18446744073709551616 read 0 0 1", LineCause::Word),
@@ -17,9 +17,6 @@ const SECOND_LINES: [(&str, LineCause); 36] = [
     ("1", LineCause::Form),
     ("1 ", LineCause::Form),
     (" 1", LineCause::Form),
-    ("host frob", LineCause::Word),
-    ("host", LineCause::Later),
-    ("host config", LineCause::Later),
     ("online", LineCause::Form),
     ("online ", LineCause::Form),
     ("online both", LineCause::Form),
@@ -125,8 +122,94 @@ const TURN_LINES: [(&str, LineCause); 29] = [
     ("draw 1 4294967296", LineCause::Range),
 ];
 
+/// The same of the host's commands.
+const COMMAND_LINES: [(&str, LineCause); 36] = [
+    ("host", LineCause::Form),
+    ("host ", LineCause::Form),
+    ("host  config", LineCause::Form),
+    ("host config ", LineCause::Form),
+    ("host config 1", LineCause::Form),
+    ("host frob", LineCause::Word),
+    ("host Config", LineCause::Word),
+    ("host requests 00", LineCause::Word),
+    ("hosts config", LineCause::Word),
+    ("host resize 64", LineCause::Later),
+    ("host resize", LineCause::Later),
+    ("host join 1", LineCause::Later),
+    ("host leave 1", LineCause::Later),
+    ("host migrate", LineCause::Later),
+    ("host cancel", LineCause::Later),
+    ("host finish", LineCause::Later),
+    ("host request", LineCause::Form),
+    ("host request ", LineCause::Form),
+    ("host request  00", LineCause::Form),
+    ("host request 0", LineCause::Form),
+    ("host request 010", LineCause::Form),
+    ("host request 0A", LineCause::Form),
+    ("host request aBcd", LineCause::Form),
+    ("host request 0g", LineCause::Form),
+    ("host request 0x00", LineCause::Form),
+    ("host request 00 ", LineCause::Form),
+    ("host request 00 01", LineCause::Form),
+    (
+        "host request 000102030405060708090a0b0c0d0e0f101112131415161718191a1b1c1d1e1f202122232425262728292a2b2c2d2e2f303132333435363738393a3b3c3d3e3f40",
+        LineCause::Form,
+    ),
+    (
+        "host request 000102030405060708090a0b0c0d0e0f101112131415161718191a1b1c1d1e1f202122232425262728292a2b2c2d2e2f303132333435363738393a3b3c3d3e3f0",
+        LineCause::Form,
+    ),
+    (
+        "host request 010000000000000000000000000000000000000000000000",
+        LineCause::Later,
+    ),
+    (
+        "host request 020000000000000000000000000000000000000000000000",
+        LineCause::Later,
+    ),
+    (
+        "host request 0100ffffffffffffffffffffffffffffffffffffffffffff",
+        LineCause::Later,
+    ),
+    (
+        "host request 010000000000000000000000000000000000000000000000 ",
+        LineCause::Form,
+    ),
+    (
+        "host request 020000000000000000000000000000000000000000000000 00",
+        LineCause::Form,
+    ),
+    (
+        "host request 0100fffffffffffffffffffffffffffffffffffffffffffF",
+        LineCause::Form,
+    ),
+    (
+        "host request 0100000000000000000000000000000000000000000000000",
+        LineCause::Form,
+    ),
+];
+
+/// Digits of requests that are read, and how many bytes they write.
+const REQUESTS: [(&str, usize); 12] = [
+    ("00", 1),
+    ("9f", 1),
+    (
+        "000102030405060708090a0b0c0d0e0f101112131415161718191a1b1c1d1e1f202122232425262728292a2b2c2d2e2f303132333435363738393a3b3c3d3e3f",
+        64,
+    ),
+    ("0100000000000000000000000000000000000000000000", 23),
+    ("0200000000000000000000000000000000000000000000", 23),
+    ("01000000000000000000000000000000000000000000000000", 25),
+    ("02000000000000000000000000000000000000000000000000", 25),
+    ("010100000000000000000000000000000000000000000000", 24),
+    ("020100000000000000000000000000000000000000000000", 24),
+    ("000000000000000000000000000000000000000000000000", 24),
+    ("030000000000000000000000000000000000000000000000", 24),
+    ("0000ffffffffffffffffffffffffffffffffffffffffffff", 24),
+];
+
 /// Whole texts, the line that is refused, and its cause.
-const TEXTS: [(&str, u64, LineCause); 27] = [
+const TEXTS: [(&str, u64, LineCause); 33] = [
     ("", 0, LineCause::Empty),
     ("# nothing\n\n#\r\n", 0, LineCause::Empty),
     ("machine 3 4 2 4 4 8\n", 1, LineCause::Range),
@@ -218,6 +301,16 @@ const TEXTS: [(&str, u64, LineCause); 27] = [
         3,
         LineCause::Count,
     ),
+    ("host config\nmachine 2 4 2 4 4 8\n", 1, LineCause::Order),
+    ("host request 00\n", 1, LineCause::Order),
+    ("host cancel\n", 1, LineCause::Later),
+    ("host frob\n", 1, LineCause::Word),
+    ("host request 0\n", 1, LineCause::Form),
+    (
+        "host request 010000000000000000000000000000000000000000000000\n",
+        1,
+        LineCause::Later,
+    ),
 ];
 
 /// Each of these texts is refused at the line behind the machine line, for its cause.
@@ -247,6 +340,11 @@ fn lines_of_calls(rt: HostRuntime) -> Result<(), Fail> {
 #[test]
 fn lines_of_turns(rt: HostRuntime) -> Result<(), Fail> {
     are_refused(&rt, rt.alloc(), &TURN_LINES)
+}
+
+#[test]
+fn lines_of_commands(rt: HostRuntime) -> Result<(), Fail> {
+    are_refused(&rt, rt.alloc(), &COMMAND_LINES)
 }
 
 #[test]
@@ -379,5 +477,64 @@ fn the_most_turns_and_calls_are_taken(rt: HostRuntime) -> Result<(), Fail> {
     assert_eq!(rt; scenario.drawn.map(|d| d.count), Some(1 << 24));
     assert_eq!(rt; scenario.owners.len(), 16);
     assert_eq!(rt; scenario.owners.as_slice()[15].len(), 1_048_575);
+    Ok(())
+}
+
+#[test]
+fn commands_are_kept(rt: HostRuntime) -> Result<(), Fail> {
+    let text =
+        "machine 2 4 2 4 4 8\nhost request 0a\n1 pin 0\nhost config\nhost request 00ff9f\nhost config";
+    let scenario = read_scenario(rt.alloc(), text.as_bytes())?;
+    let commands = [
+        HostCommand::Request {
+            bytes: RequestBytes::from_slice(&[10]),
+        },
+        HostCommand::Config,
+        HostCommand::Request {
+            bytes: RequestBytes::from_slice(&[0, 255, 159]),
+        },
+        HostCommand::Config,
+    ];
+    assert_eq!(rt; scenario.host.as_slice(), commands.as_slice());
+    assert_eq!(rt; scenario.owners.len(), 1);
+    Ok(())
+}
+
+/// Each of these requests is read, and its bytes are those of its digits.
+fn are_kept(rt: &impl Abort, alloc: Global, requests: &[(&str, usize)]) -> Result<(), Fail> {
+    for (digits, count) in requests {
+        let text = format!(in alloc; "{MACHINE}host request {digits}")?;
+        let scenario = read_scenario(alloc, text.as_bytes())?;
+        assert_eq!(rt; scenario.host.len(), 1);
+        let HostCommand::Request { bytes } = scenario.host.as_slice()[0] else {
+            panic!(rt; "{digits} is no request");
+        };
+        assert_eq!(rt; bytes.as_slice().len(), *count);
+        let again = hex::encode(alloc, bytes.as_slice())?;
+        assert_eq!(rt; again.as_str(), *digits);
+    }
+    Ok(())
+}
+
+#[test]
+fn requests_are_kept(rt: HostRuntime) -> Result<(), Fail> {
+    are_kept(&rt, rt.alloc(), &REQUESTS)
+}
+
+#[test]
+fn the_most_commands_are_taken(rt: HostRuntime) -> Result<(), Fail> {
+    let mut text = format!(in rt.alloc(); "{MACHINE}")?;
+    for _ in 0..256 {
+        text.push_str("host config\n")?;
+    }
+    let scenario = read_scenario(rt.alloc(), text.as_bytes())?;
+    assert_eq!(rt; scenario.host.len(), 256);
+    text.push_str("host request 00\n")?;
+    let fault = ScenarioFault {
+        line: 258,
+        cause: LineCause::Count,
+    };
+    let result = read_scenario(rt.alloc(), text.as_bytes()).err();
+    assert_eq!(rt; result, Some(ScenarioError::Fault(fault)));
     Ok(())
 }
