@@ -111,7 +111,7 @@ module _ (s : Scenario) (m : Machine) (r : IsRunnable s) (p : IsKept s m) (i : �
   out_then x after f out = subst (λ (b : OwnerState). IsOutForCall after b.left b.back f) (sym (after_is a x (actions.Space (Lease page kind)) going is)) out
 
   -- `n` is the place of the owner
-  pub refusal_placed : (at_place n : ℕ) → n ≡ i → AreFramesPlaced s (record { snapshot = m.snapshot; owners = set m.owners n (owner_after a (heard.NoFrame at_place)); journal = m.journal })
+  pub refusal_placed : (at_place n : ℕ) → n ≡ i → AreFramesPlaced s (record m { owners = set m.owners n (owner_after a (heard.NoFrame at_place)) })
   refusal_placed at_place n place = placed_again s m p.frames i below (owner_after a (heard.NoFrame at_place)) n place m.snapshot.words m.snapshot.views (λ seat ne. refl) p.frames.mapped
       (λ f some. out_then (heard.NoFrame at_place) st f (p.frames.in_hand i a f at some))
 
@@ -205,7 +205,7 @@ module _ (s : Scenario) (m : Machine) (r : IsRunnable s) (p : IsKept s m) (i : �
         (λ same. out_as_asked s.geometry (opening s) v script a page kind then f fits going is (ap (λ (g : ℕ). out_for then g) same ∙ out_here))
         (λ ne. out_still st f then a.left a.back (out_other f ne) (was_out f (subst (λ (x : Option HandFrame). IsSome x) (my_frame f ne) some)))
 
-    pub lease_placed : (n : ℕ) → n ≡ i → AreFramesPlaced s (record {
+    pub lease_placed : (n : ℕ) → n ≡ i → AreFramesPlaced s (record m {
       snapshot = record { words = m.snapshot.words; views = views };
       owners = set m.owners n (owner_after a (heard.Leased (record { 0 = l.frame })));
       journal = journal;

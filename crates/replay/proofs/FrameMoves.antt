@@ -183,10 +183,9 @@ module _ (s : Scenario) (m : Machine) (r : IsRunnable s) (p : IsKept s m) (i : �
       subst (λ (t : MoveStep). HandOut t v.held) (sym e) (hand_unmap page held_is (to_out st) (subst (λ (t : MoveStep). AllowedMove OneOwner (opening s) v t) e may))
 
   -- `n` is the place of the owner
-  pub move_placed : (step : MoveStep) → next_action a ≡ actions.Move step → (n : ℕ) → n ≡ i → AreFramesPlaced s (record {
+  pub move_placed : (step : MoveStep) → next_action a ≡ actions.Move step → (n : ℕ) → n ≡ i → AreFramesPlaced s (record m {
     snapshot = record { words = words_after_move m.snapshot.words v step; views = set m.snapshot.views (suc i) (view_after_move OneOwner v step) };
     owners = set m.owners n (owner_after a Nothing);
-    journal = m.journal;
   })
   move_placed step is n place =
       let kind = move_kind s.geometry (opening s) v script a step fits going is in

@@ -214,7 +214,7 @@ module _ (s : Scenario) (m : Machine) (r : IsRunnable s) (p : IsKept s m) (i : �
   }
 
   -- `n` is the place of the owner
-  pub return_placed : (n : ℕ) → n ≡ i → AreFramesPlaced s (record { snapshot = record { words = m.snapshot.words; views = views }; owners = set m.owners n (owner_after a Nothing); journal = journal })
+  pub return_placed : (n : ℕ) → n ≡ i → AreFramesPlaced s (record m { snapshot = record { words = m.snapshot.words; views = views }; owners = set m.owners n (owner_after a Nothing); journal = journal })
   return_placed n place = placed_later s m p.frames i below (owner_after a Nothing) n place views others_then journal frame.0 (moved n place)
       (λ had. (out_here, ap (λ (l : List ℕ). is_frame_in s.geometry l frame.0) offline_still ∙ plugged (is_frame_in s.geometry st.offline frame.0) refl), λ q. free_has)
       (λ f some. absurd (not_none _ some (empty_then f)))

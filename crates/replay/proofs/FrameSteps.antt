@@ -199,10 +199,9 @@ module _ (s : Scenario) (m : Machine) (p : IsKept s m) (i : ℕ) (a : OwnerState
       fits_then.hand
 
   -- `n` is the place of the owner
-  pub step_placed : (n : ℕ) → n ≡ i → AreFramesPlaced s (record {
+  pub step_placed : (n : ℕ) → n ≡ i → AreFramesPlaced s (record m {
     snapshot = record { words = words_after (opening s) m.snapshot.words v step; views = views };
     owners = set m.owners n (owner_after a heard);
-    journal = m.journal;
   })
   step_placed n place = placed_again s m p.frames i (within m.owners i a at) (owner_after a heard) n place (words_after (opening s) m.snapshot.words v step) views
       (λ seat ne. get_or-set_other m.snapshot.views (suc i) seat (view_after OneOwner v step word) spent ne) mapped_then in_hand_then

@@ -1,4 +1,4 @@
--- The frames are where the space's journal has them after each turn.
+-- The frames are where the journals have them after each turn.
 use Rattle.std.proofs.Common.{◌≡◌, ℕ, zero, suc, ◌-◌, ◌<◌, Bool, true, false, if◌then◌else◌, [], length, slice_get, refl, ap, arith, Option, Some, None}
 use Rattle.std.proofs.lemmas.List.{get_or_past}
 use Rattle.std.proofs.lemmas.Option.{slice_get-get_or}
@@ -15,10 +15,11 @@ use Rattle.evac_model.specs.SpaceJournal.{Leased, lease_of}
 use Rattle.core_state.specs.Views.{Has, view_of, spent}
 use Rattle.core_actors.specs.declared.action.Action.{Action}
 use Rattle.core_actors.specs.declared.action.Action.TheVariants as actions
-use Rattle.core_actors.specs.declared.action.SpaceCall.TheVariants.{Lease, Return}
+use Rattle.core_actors.specs.declared.action.SpaceCall.TheVariants.{Lease, Return, Online}
+use Rattle.core_actors.specs.Hosts.{host_action, host_ended}
 use Rattle.core_actors.specs.Owners.{OwnerState, owner_at_start, owner_ended, next_action}
 use Rattle.replay.specs.Keeping.{IsKept}
-use Rattle.replay.specs.Machine.{Machine, free_seat, owner_of, scene_of, with_scene, after_lease, after_action, after_turn}
+use Rattle.replay.specs.Machine.{Machine, free_seat, unplugged_seat, owner_of, scene_of, with_scene, host_scene_of, with_host_scene, after_lease, after_action, after_host_action, after_turn}
 use Rattle.replay.specs.Runs.{setting}
 use Rattle.replay.specs.FramesOut.{space_now, AreFramesPlaced}
 use Rattle.replay.proofs.FramesAfter.{placed_again}
@@ -26,6 +27,7 @@ use Rattle.replay.proofs.FrameSteps.{step_placed}
 use Rattle.replay.proofs.FrameMoves.{move_placed}
 use Rattle.replay.proofs.FrameLeases.{refusal_placed, lease_placed}
 use Rattle.replay.proofs.FrameReturns.{return_placed}
+use Rattle.replay.proofs.HostFrames.{host_frames_placed}
 
 -- ---- the next action of an owner that hasn't ended
 
@@ -50,12 +52,18 @@ module _ (s : Scenario) (m : Machine) (r : IsRunnable s) (p : IsKept s m) (i : �
   by_lease page kind is None e = refusal_placed s m r p i a (view_of m.snapshot.views (suc i)) at has going page kind is (length m.journal) (suc i - 1) place
   by_lease page kind is (Some l) e = lease_placed s m r p i a (view_of m.snapshot.views (suc i)) at has going page kind is l e (suc i - 1) place
 
+  -- the owner is as it was
+  as_it_was : AreFramesPlaced s (with_scene m (suc i) (scene_of m (suc i)))
+  as_it_was = placed_again s m p.frames i below a (suc i - 1) place m.snapshot.words m.snapshot.views (λ seat ne. refl) p.frames.mapped (λ f some. p.frames.in_hand i a f at some)
+
   by_action : (x : Action) → next_action a ≡ x → AreFramesPlaced s (with_scene m (suc i) (after_action (setting s) (suc i) free (scene_of m (suc i)) x))
   by_action (actions.Step step) is = step_placed s m p i a (view_of m.snapshot.views (suc i)) at has going step is (suc i - 1) place
   by_action (actions.Move step) is = move_placed s m r p i a (view_of m.snapshot.views (suc i)) at has going step is (suc i - 1) place
   by_action (actions.Space (Lease page kind)) is = by_lease page kind is (lease_of s.geometry (online_of s) (space_now s m) (suc i) kind) refl
   by_action (actions.Space (Return frame)) is = return_placed s m r p i a (view_of m.snapshot.views (suc i)) at has going frame is (suc i - 1) place
-  by_action actions.Ended is = placed_again s m p.frames i below a (suc i - 1) place m.snapshot.words m.snapshot.views (λ seat ne. refl) p.frames.mapped (λ f some. p.frames.in_hand i a f at some)
+  by_action (actions.Space (Online block)) is = as_it_was
+  by_action (actions.Device call) is = as_it_was
+  by_action actions.Ended is = as_it_was
 
 -- ---- a turn
 
@@ -71,7 +79,12 @@ module _ (s : Scenario) (m : Machine) (r : IsRunnable s) (p : IsKept s m) where
   owner_turn k true ended = p.frames
   owner_turn k false going = going_turn k going
 
+  host_turn : (b : Bool) → host_ended m.host ≡ b
+      → AreFramesPlaced s (if b then m else with_host_scene m (after_host_action s.geometry (free_seat (length m.owners)) (unplugged_seat (length m.owners)) (host_scene_of m) (host_action m.host)))
+  host_turn true ended = p.frames
+  host_turn false going = host_frames_placed s m r p going
+
 pub frames_placed : (s : Scenario) (m : Machine) (actor : Actor) → IsRunnable s → IsKept s m → AreFramesPlaced s (after_turn (setting s) m actor)
 frames_placed s m (Owner k) r p = owner_turn s m r p k (owner_ended (owner_of m.owners k)) refl
-frames_placed s m Host r p = p.frames
+frames_placed s m Host r p = host_turn s m r p (host_ended m.host) refl
 frames_placed s m Scanner r p = p.frames

@@ -1,11 +1,13 @@
--- The frames are where the space's journal has them after an action that changed the seat of one owner, and
--- the hand of the free frames by one frame at most.
-use Rattle.std.proofs.Common.{◌≡◌, ◌≢◌, ◌⊎◌, ◌↔◌, ℕ, suc, ◌+◌, ◌<◌, false, true, List, length, length-set, set, slice_get, sym, ap, ◌∙◌, subst, inl, inr, ⊎_elim, arith, Option, Some, None, IsSome}
+-- The frames are where the journals have them after an action that changed the seat of one owner, and the hand of
+-- the free frames by one frame at most.
+use Rattle.std.proofs.Common.{◌≡◌, ◌≢◌, ◌⊎◌, ◌↔◌, ℕ, suc, ◌+◌, ◌<◌, false, true, List, length, length-set, set, slice_get, sym, ap, ◌∙◌, subst, ⊎_elim, arith, Option, Some, None, IsSome}
 use mathlib.Core.Logic.{dite}
 use native.Mathlib.Decide.{ℕ_discrete}
 use Rattle.evac_model.specs.declared.scenario.Scenario.{Scenario}
 use Rattle.evac_model.specs.declared.space.SpaceAction.{SpaceAction}
 use Rattle.evac_model.specs.Geometry.{frame_count}
+use Rattle.evac_model.specs.Numbers.{is_in}
+use Rattle.evac_model.specs.HostCommands.{blocks_of}
 use Rattle.evac_model.specs.ScenarioGrammar.{online_of}
 use Rattle.evac_model.specs.SpaceJournal.{Out, SpaceState, out_for, is_frame_in, space_at_start, IsPossibleJournal}
 use Rattle.evac_words.specs.Word.{mapped_bit, frame_of}
@@ -15,8 +17,8 @@ use Rattle.core_state.specs.Words.{entry_word_of, kind_in}
 use Rattle.core_state.specs.Views.{view_of, hand_frame}
 use Rattle.core_state.proofs.Lists.{at_set, within}
 use Rattle.core_actors.specs.Owners.{OwnerState}
-use Rattle.replay.specs.Machine.{Machine, free_seat}
-use Rattle.replay.specs.FramesOut.{HasFrame, space_now, IsOutForCall, AreFramesPlaced}
+use Rattle.replay.specs.Machine.{Machine, free_seat, unplugged_seat}
+use Rattle.replay.specs.FramesOut.{HasFrame, space_now, unplugged_now, IsOutForCall, AreFramesPlaced}
 use Rattle.replay.proofs.OutForCalls.{out_still}
 
 -- the frame isn't out, and lies in no offline block
@@ -43,12 +45,12 @@ module _ (s : Scenario) (m : Machine) (p : AreFramesPlaced s m) (i : ℕ) (below
   which : (j : ℕ) (b : OwnerState) → slice_get owners j ≡ Some b → ((j ≡ i) × (a ≡ b)) ⊎ ((j ≢ i) × (slice_get m.owners j ≡ Some b))
   which j b at = at_set m.owners i j a b (subst (λ (k : ℕ). slice_get (set m.owners k a) j ≡ Some b) place at)
 
-  -- ---- the journal is the same
+  -- ---- the journals are the same
 
   module _ (words : List ℕ) (views : List View) (others : (seat : ℕ) → seat ≢ suc i → view_of views seat ≡ view_of m.snapshot.views seat) where
     -- the machine with these words and views
     abbrev again : Machine
-    again = record { snapshot = record { words = words; views = views }; owners = owners; journal = m.journal }
+    again = record m { snapshot = record { words = words; views = views }; owners = owners }
 
     -- a seat whose number depends on how many owners there are
     again_at : (f : ℕ → ℕ) → f (length m.owners) ≢ suc i → view_of views (f (length owners)) ≡ view_of m.snapshot.views (f (length m.owners))
@@ -58,11 +60,10 @@ module _ (s : Scenario) (m : Machine) (p : AreFramesPlaced s m) (i : ℕ) (below
     placed_again mapped in_hand = record {
       possible = p.possible;
       free = λ frame low. subst (λ (v : View). IsSome (hand_frame v frame) ↔ IsFreeIn s (space_now s m) frame) (sym (again_at free_seat (λ e. omega arith))) (p.free frame low);
-      unplugged = λ frame low. subst (λ (v : View). IsSome (hand_frame v frame) ↔ (is_frame_in s.geometry (space_now s m).offline frame ≡ true)) (sym (again_at (λ (l : ℕ). free_seat l + 1) (λ e. omega arith))) (p.unplugged frame low);
-      empty = λ seat frame which_one.
-          let many = as_many in
-          ap (λ (v : View). hand_frame v frame) (others seat (λ e. ⊎_elim (λ z. omega arith) (λ z. omega arith) which_one))
-          ∙ p.empty seat frame (⊎_elim (λ z. inl z) (λ z. inr (omega arith)) which_one);
+      unplugged = λ frame low. subst (λ (v : View). IsSome (hand_frame v frame) ↔ (is_frame_in s.geometry (unplugged_now s m) frame ≡ true)) (sym (again_at unplugged_seat (λ e. omega arith))) (p.unplugged frame low);
+      driver = λ frame low. subst (λ (v : View). IsSome (hand_frame v frame) ↔ (is_frame_in s.geometry (blocks_of m.host.online) frame ≡ true)) (sym (others 0 (λ e. omega arith))) (p.driver frame low);
+      offline = p.offline;
+      scanner = λ frame. ap (λ (v : View). hand_frame v frame) (again_at (λ (l : ℕ). l + 1) (λ e. omega arith)) ∙ p.scanner frame;
       mapped = mapped;
       in_hand = λ j b frame at has. ⊎_elim
           (λ q. subst (λ (c : OwnerState). IsOutForCall (space_now s m) c.left c.back frame) q.1 (in_hand frame (subst (λ (k : ℕ). HasFrame again (suc k) frame) q.0 has)))
@@ -75,7 +76,7 @@ module _ (s : Scenario) (m : Machine) (p : AreFramesPlaced s m) (i : ℕ) (below
   module _ (views : List View) (others : (seat : ℕ) → seat ≢ suc i → seat ≢ free → view_of views seat ≡ view_of m.snapshot.views seat) (journal : List SpaceAction) (f : ℕ) where
     -- the machine with these views and this journal
     abbrev later : Machine
-    later = record { snapshot = record { words = m.snapshot.words; views = views }; owners = owners; journal = journal }
+    later = record m { snapshot = record { words = m.snapshot.words; views = views }; owners = owners; journal = journal }
 
     -- all but the one frame is as it was, and nobody else has that one
     pub record IsMoved : Type 0 where
@@ -104,12 +105,10 @@ module _ (s : Scenario) (m : Machine) (p : AreFramesPlaced s m) (i : ℕ) (below
         possible = h.possible;
         free = λ frame low. subst (λ (k : ℕ). FreeAs (space_now s later) (view_of views (free_seat k)) frame) (sym as_many)
             (dite (ℕ_discrete frame f) (λ e. subst (λ (g : ℕ). FreeAs (space_now s later) (view_of views free) g) (sym e) here) (λ ne. free_still frame ne low));
-        unplugged = λ frame low. subst (λ (v : View). IsSome (hand_frame v frame) ↔ (is_frame_in s.geometry (space_now s later).offline frame ≡ true)) (sym (later_at (λ (l : ℕ). free_seat l + 1) (λ e. omega arith) (λ e. omega arith)))
-            (subst (λ (l : List ℕ). HasFrame m (free + 1) frame ↔ (is_frame_in s.geometry l frame ≡ true)) (sym h.offline) (p.unplugged frame low));
-        empty = λ seat frame which_one.
-            let many = as_many in
-            ap (λ (v : View). hand_frame v frame) (others seat (λ e. ⊎_elim (λ z. omega arith) (λ z. omega arith) which_one) (λ e. ⊎_elim (λ z. omega arith) (λ z. omega arith) which_one))
-            ∙ p.empty seat frame (⊎_elim (λ z. inl z) (λ z. inr (omega arith)) which_one);
+        unplugged = λ frame low. subst (λ (v : View). IsSome (hand_frame v frame) ↔ (is_frame_in s.geometry (unplugged_now s m) frame ≡ true)) (sym (later_at unplugged_seat (λ e. omega arith) (λ e. omega arith))) (p.unplugged frame low);
+        driver = λ frame low. subst (λ (v : View). IsSome (hand_frame v frame) ↔ (is_frame_in s.geometry (blocks_of m.host.online) frame ≡ true)) (sym (others 0 (λ e. omega arith) (λ e. omega arith))) (p.driver frame low);
+        offline = λ block. ap (λ (l : List ℕ). is_in block l) h.offline ∙ p.offline block;
+        scanner = λ frame. ap (λ (v : View). hand_frame v frame) (later_at (λ (l : ℕ). l + 1) (λ e. omega arith) (λ e. omega arith)) ∙ p.scanner frame;
         mapped = λ page low on. h.out (frame_of (entry_word_of m.snapshot.words page)) (h.unmapped page low on) ∙ p.mapped page low on;
         in_hand = λ j b frame at has. ⊎_elim
             (λ q. subst (λ (c : OwnerState). IsOutForCall (space_now s later) c.left c.back frame) q.1 (in_hand frame (subst (λ (k : ℕ). HasFrame later (suc k) frame) q.0 has)))

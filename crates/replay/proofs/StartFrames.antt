@@ -1,6 +1,7 @@
 -- Where the frames are at the start: those of the start pages are mapped, and the others are in the hands of the free
 -- and the unplugged frames.
-use Rattle.std.proofs.Common.{◌≡◌, ◌≢◌, ◌⊎◌, ◌↔◌, ⊎_elim, ℕ, zero, suc, ◌+◌, ◌-◌, ◌*◌, ◌<◌, ◌≤◌, eqb, nat_eq, true, false, List, [], ◌∷◌, ◌++◌, length, map, set, get_or, get_or-set_other, refl, sym, ap, ◌∙◌, subst, eq-eqb, ne_eqb, mul-le-mul_right, arith, Option, Some, None, IsSome}
+use Rattle.std.proofs.Common.{◌≡◌, ◌≢◌, ◌↔◌, ℕ, zero, suc, ◌+◌, ◌-◌, ◌*◌, ◌<◌, ◌≤◌, eqb, nat_eq, Bool, true, false, not, List, [], ◌∷◌, ◌++◌, length, map, set, get_or, get_or-set_other, refl, sym, ap, ◌∙◌, subst, eq-eqb, ne_eqb, mul-le-mul_right, arith, Option, Some, None, IsSome}
+use Rattle.std.proofs.Math.Bool.{or-false}
 use Rattle.std.proofs.Math.Seq.{get_or-append_right}
 use Rattle.std.proofs.lemmas.Bool.{false≢true, false_from_ne_true, cond-true, cond-false, or_left, or_right}
 use Rattle.std.proofs.lemmas.List.{length-replicate, get_or-replicate, get_or_append_left}
@@ -13,12 +14,14 @@ use Rattle.evac_model.specs.declared.names.PageNo.{PageNo}
 use Rattle.evac_model.specs.declared.call.Call.{Call}
 use Rattle.evac_model.specs.declared.scenario.Scenario.{Scenario}
 use Rattle.evac_model.specs.declared.scenario.StartPage.{StartPage}
+use Rattle.evac_model.specs.DeviceAnswer.{unplugged_blocks}
 use Rattle.evac_model.specs.Geometry.{Sizes, IsWithinLimits, frame_count, first_frame}
-use Rattle.evac_model.specs.Numbers.{is_in}
+use Rattle.evac_model.specs.Numbers.{is_in, is_between}
 use Rattle.evac_model.specs.Scenarios.{IsRunnable}
 use Rattle.evac_model.specs.SpaceJournal.{out_for, is_frame_in, out_at_start}
 use Rattle.evac_model.specs.StartPages.{IsStartPage}
-use Rattle.evac_model.proofs.Ranges.{between_below}
+use Rattle.evac_model.proofs.Numbers.{numbers_agree}
+use Rattle.evac_model.proofs.Ranges.{between_inside, between_below, between_above}
 use Rattle.evac_words.specs.Word.{mapped_bit, frame_of}
 use Rattle.evac_words.specs.Table.{entry_index, table_length}
 use Rattle.core_state.specs.declared.hand.HandFrame.{HandFrame}
@@ -32,9 +35,9 @@ use Rattle.core_state.proofs.WordsAt.{entry_word-here, entry_word-other}
 use Rattle.core_moves.proofs.MoveWords.{kind_in-mapped, frame_of-mapped}
 use Rattle.space.proofs.BlockFrames.{frame_from, in_block, frame_in_witness}
 use Rattle.space.proofs.Members.{is_in-range_with_len}
-use Rattle.space.proofs.Opens.{out_at_place}
-use Rattle.replay.specs.FramesOut.{space_now, AreFramesPlaced}
-use Rattle.replay.specs.Machine.{Machine, free_seat}
+use Rattle.space.proofs.Opens.{numbers_between, out_at_place}
+use Rattle.replay.specs.FramesOut.{HasFrame, space_now, unplugged_now, AreFramesPlaced}
+use Rattle.replay.specs.Machine.{Machine, free_seat, unplugged_seat}
 use Rattle.replay.specs.Runs.{budgets_of, machine_at_start}
 use Rattle.replay.proofs.Starts.{same_item, none_there, length-owners_from, length-owner_views}
 
@@ -110,24 +113,35 @@ module _ (s : Sizes) where
       let last : first_frame s (a + 1 + n) ≡ first_frame s (a + suc n) = ap (λ (b : ℕ). first_frame s b) (omega arith) in
       or_right _ _ (in_range (a + 1) n f (omega arith) (omega arith)))
 
-  abbrev unplugged_blocks : List ℕ
-  unplugged_blocks = range_with_len s.plugged (s.managed - s.plugged)
+  abbrev not_plugged : List ℕ
+  not_plugged = range_with_len s.plugged (s.managed - s.plugged)
 
-  unplugged_from : (b : ℕ) → is_in b unplugged_blocks ≡ true → s.plugged ≤ b
+  unplugged_from : (b : ℕ) → is_in b not_plugged ≡ true → s.plugged ≤ b
   unplugged_from b there = dite (dec_lt b s.plugged)
       (λ lt. absurd (false≢true (sym (between_below s.plugged (s.plugged + (s.managed - s.plugged)) b lt) ∙ sym (is_in-range_with_len b s.plugged (s.managed - s.plugged)) ∙ there)))
       (λ ge. omega arith)
 
-  offline_there : (f : ℕ) → is_frame_in s unplugged_blocks f ≡ true → frames_there s ≤ f
+  offline_there : (f : ℕ) → is_frame_in s not_plugged f ≡ true → frames_there s ≤ f
   offline_there f off =
-      let w = frame_in_witness s unplugged_blocks f off in
+      let w = frame_in_witness s not_plugged f off in
       let from : (s.boot + s.plugged) * s.block ≤ first_frame s w.0 = mul-le-mul_right s.block (let le = unplugged_from w.0 w.1 in omega arith) in
       let le = frame_from s w.0 f w.2 in omega arith
 
-  there_offline : (f : ℕ) → s.plugged ≤ s.managed → f < frame_count s → frames_there s ≤ f → is_frame_in s unplugged_blocks f ≡ true
+  there_offline : (f : ℕ) → s.plugged ≤ s.managed → f < frame_count s → frames_there s ≤ f → is_frame_in s not_plugged f ≡ true
   there_offline f few below from =
       let last : first_frame s (s.plugged + (s.managed - s.plugged)) ≡ frame_count s = ap (λ (b : ℕ). first_frame s b) (let e : s.plugged + (s.managed - s.plugged) ≡ s.managed = omega arith in e) in
       in_range s.plugged (s.managed - s.plugged) f from (omega arith)
+
+  -- a managed block isn't plugged where it comes behind the lowest ones
+  not_plugged_test : (b : ℕ) → b < s.managed → not (is_in b (range_with_len 0 s.plugged)) ≡ is_between s.plugged s.managed b
+  not_plugged_test b low = ap (λ (t : Bool). not t) (is_in-range_with_len b 0 s.plugged) ∙ dite (dec_lt b s.plugged)
+      (λ lt. ap (λ (t : Bool). not t) (between_inside 0 (0 + s.plugged) b (omega arith) (omega arith)) ∙ sym (between_below s.plugged s.managed b lt))
+      (λ ge. ap (λ (t : Bool). not t) (between_above 0 (0 + s.plugged) b (omega arith)) ∙ sym (between_inside s.plugged s.managed b (omega arith) low))
+
+  not_plugged_are : s.plugged ≤ s.managed → unplugged_blocks s (range_with_len 0 s.plugged) ≡ not_plugged
+  not_plugged_are few =
+      numbers_agree (λ b. not (is_in b (range_with_len 0 s.plugged))) (is_between s.plugged s.managed) s.managed not_plugged_test
+      ∙ numbers_between s.plugged s.managed few
 
   -- ---- the start pages' words
 
@@ -201,20 +215,24 @@ module _ (s : Scenario) (r : IsRunnable s) where
   free_here : view_of m.snapshot.views (free_seat (length m.owners)) ≡ keeper_view s.geometry (free_hand s.geometry s.start)
   free_here = last_at (free_seat (length m.owners)) 1 (let n = many in omega arith)
 
-  unplugged_here : view_of m.snapshot.views (free_seat (length m.owners) + 1) ≡ keeper_view s.geometry (unplugged_hand s.geometry)
-  unplugged_here = last_at (free_seat (length m.owners) + 1) 2 (let n = many in omega arith)
+  unplugged_here : view_of m.snapshot.views (unplugged_seat (length m.owners)) ≡ keeper_view s.geometry (unplugged_hand s.geometry)
+  unplugged_here = last_at (unplugged_seat (length m.owners)) 2 (let n = many in omega arith)
 
-  empty_here : (seat frame : ℕ) → (seat ≡ 0) ⊎ (seat ≡ length m.owners + 1) → hand_frame (view_of m.snapshot.views seat) frame ≡ None
-  empty_here seat frame which = ⊎_elim
-      (λ e. ap (λ (k : ℕ). hand_frame (view_of m.snapshot.views k) frame) e ∙ none_there (frame_count s.geometry) frame)
-      (λ e. ap (λ (v : View). hand_frame v frame) (last_at seat 0 (let n = many in omega arith)) ∙ none_there (frame_count s.geometry) frame)
-      which
+  driver_empty : (frame : ℕ) → ¬ HasFrame m 0 frame
+  driver_empty frame = nowhere _ (none_there (frame_count s.geometry) frame)
+
+  scanner_empty : (frame : ℕ) → hand_frame (view_of m.snapshot.views (length m.owners + 1)) frame ≡ None
+  scanner_empty frame = ap (λ (v : View). hand_frame v frame) (last_at (length m.owners + 1) 0 (let n = many in omega arith)) ∙ none_there (frame_count s.geometry) frame
 
   owner_empty : (i frame : ℕ) → i < length s.owners → hand_frame (view_of m.snapshot.views (suc i)) frame ≡ None
   owner_empty i frame lt = ap (λ (l : List (Option HandFrame)). get_or l frame None) (owner_hand s.geometry 1 s.owners last i lt) ∙ none_there (frame_count s.geometry) frame
 
   plugged_where : (frame : ℕ) → frame < frame_count s.geometry → (is_frame_in s.geometry (space_now s m).offline frame ≡ true) ↔ (frames_there s.geometry ≤ frame)
   plugged_where frame low = (offline_there s.geometry frame, there_offline s.geometry frame r.limits.plugged low)
+
+  -- the blocks that aren't plugged are the offline ones
+  unplugged_are : unplugged_now s m ≡ (space_now s m).offline
+  unplugged_are = not_plugged_are s.geometry r.limits.plugged
 
   pub frames_at_start : AreFramesPlaced s (machine_at_start s)
   frames_at_start = record {
@@ -230,9 +248,12 @@ module _ (s : Scenario) (r : IsRunnable s) where
     unplugged = λ frame low.
         let at = unplugged_at s.geometry frame low in
         let off = plugged_where frame low in
-        subst (λ (v : View). IsSome (hand_frame v frame) ↔ (is_frame_in s.geometry (space_now s m).offline frame ≡ true)) (sym unplugged_here)
-        ((λ is. off.1 (at.0 is)), (λ yes. at.1 (off.0 yes)));
-    empty = empty_here;
+        subst (λ (l : List ℕ). HasFrame m (unplugged_seat (length m.owners)) frame ↔ (is_frame_in s.geometry l frame ≡ true)) (sym unplugged_are)
+        (subst (λ (v : View). IsSome (hand_frame v frame) ↔ (is_frame_in s.geometry (space_now s m).offline frame ≡ true)) (sym unplugged_here)
+        ((λ is. off.1 (at.0 is)), (λ yes. at.1 (off.0 yes))));
+    driver = λ frame low. ((λ has. absurd (driver_empty frame has)), (λ none. absurd (false≢true none)));
+    offline = λ block. sym (or-false (is_in block (unplugged_now s m)) ∙ ap (λ (l : List ℕ). is_in block l) unplugged_are);
+    scanner = scanner_empty;
     mapped = λ page low mapped.
         let p = mapped_out s.geometry r.limits s.start page r.start.each r.start.frames mapped in
         out_at_place s.geometry s.start (frame_of (entry_word_of m.snapshot.words page)) p.low ∙ p.out;
