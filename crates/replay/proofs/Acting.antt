@@ -11,7 +11,7 @@ use Rattle.core_state.specs.declared.view.View.{View}
 use Rattle.core_state.specs.CoreState.{notices_of}
 use Rattle.core_actors.specs.declared.action.Action.{Action}
 use Rattle.core_actors.specs.declared.action.Action.TheVariants as actions
-use Rattle.core_actors.specs.declared.action.SpaceCall.TheVariants.{Lease, Return}
+use Rattle.core_actors.specs.declared.action.SpaceCall.TheVariants.{Lease, Return, Online}
 use Rattle.core_actors.specs.Owners.{OwnerState, next_action}
 use Rattle.core_actors.proofs.AllowedMoves.{next_move_allowed}
 use Rattle.core_actors.proofs.AllowedSteps.{next_step_allowed}
@@ -45,4 +45,6 @@ may_act s m i a r kept quiet at going = by_action (next_action a) refl where
       let may = lease_allowed s.geometry (opening s) (owner_view m i) (script_of s.owners (suc i)) a page kind (owner_fits s m kept i a at).1 going is in
       (may.1, λ l some. lease_handed s m kept i a at r kind l some may.0)
   by_action (actions.Space (Return frame)) is = (return_out s m kept i a at going frame is, return_handed s m kept i a at going frame is)
+  by_action (actions.Space (Online block)) is = tt
+  by_action (actions.Device call) is = tt
   by_action actions.Ended is = tt

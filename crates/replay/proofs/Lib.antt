@@ -7,7 +7,10 @@ pub mod OwnersStay
 pub mod SpaceNow
 pub mod OwnerSeats
 pub mod IdleSeats
+pub mod SeatsInPlace
 pub mod Acting
+pub mod HostActing
+pub mod HostSeatsKept
 pub mod SeatTurns
 pub mod OutForCalls
 pub mod FramesAfter

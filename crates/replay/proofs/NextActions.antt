@@ -38,6 +38,7 @@ abbrev pub IsSuch : (Step → Type 0) → Action → Type 0
 IsSuch P (actions.Step step) = P step
 IsSuch P (actions.Move step) = ⊤
 IsSuch P (actions.Space call) = ⊤
+IsSuch P (actions.Device call) = ⊤
 IsSuch P actions.Ended = ⊥
 
 -- the steps of a call are such ones

@@ -30,7 +30,7 @@ use Rattle.core_actors.proofs.AtRest.{return_allowed}
 use Rattle.core_actors.proofs.HandSteps.{hand_sized}
 use Rattle.replay.specs.FramesOut.{space_now}
 use Rattle.replay.specs.Keeping.{HaveNumbers, IsIdle, IsKept}
-use Rattle.replay.specs.Machine.{Machine, free_seat}
+use Rattle.replay.specs.Machine.{Machine, free_seat, unplugged_seat}
 use Rattle.replay.specs.Runs.{opening}
 use Rattle.replay.proofs.OutForCalls.{is_out}
 use Rattle.replay.proofs.SpaceNow.{lease_is_free, lease_is_plugged}
@@ -66,6 +66,9 @@ one_handed o giver receiver frame x gives takes is = record {
 
 abbrev pub free_of : Machine → ℕ
 free_of m = free_seat (length m.owners)
+
+abbrev pub unplugged_of : Machine → ℕ
+unplugged_of m = unplugged_seat (length m.owners)
 
 abbrev pub owner_view : Machine → ℕ → View
 owner_view m i = view_of m.snapshot.views (suc i)

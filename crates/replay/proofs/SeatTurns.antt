@@ -1,5 +1,5 @@
 -- A turn keeps the snapshot sound, each owner's seat as its script has it, and the other seats idle.
-use Rattle.std.proofs.Common.{◌≡◌, ◌⊎◌, ⊎_elim, ℕ, zero, suc, ◌+◌, ◌-◌, ◌<◌, Bool, true, false, if◌then◌else◌, List, [], length, length-set, set, refl, sym, ap, ◌∙◌, subst, arith, Option, Some, None}
+use Rattle.std.proofs.Common.{◌≡◌, ℕ, zero, suc, ◌-◌, ◌<◌, Bool, true, false, if◌then◌else◌, List, [], length, set, inr, refl, sym, ap, ◌∙◌, subst, arith, Option, Some, None}
 use Rattle.std.specs.List.{slice_get}
 use Rattle.std.proofs.lemmas.List.{get_or_past, set-get_or}
 use Rattle.std.proofs.lemmas.Option.{slice_get-get_or}
@@ -12,7 +12,6 @@ use Rattle.evac_model.specs.declared.names.PageNo.{PageNo}
 use Rattle.evac_model.specs.declared.scenario.Actor.{Actor}
 use Rattle.evac_model.specs.declared.scenario.Actor.TheVariants.{Owner, Host, Scanner}
 use Rattle.evac_model.specs.declared.scenario.Scenario.{Scenario}
-use Rattle.evac_model.specs.declared.space.SpaceAction.{SpaceAction}
 use Rattle.evac_model.specs.Scenarios.{IsRunnable}
 use Rattle.evac_model.specs.ScenarioGrammar.{online_of}
 use Rattle.evac_model.specs.Scripts.{script_of}
@@ -23,11 +22,9 @@ use Rattle.core_state.specs.declared.step.Step.{Step}
 use Rattle.core_state.specs.declared.view.View.{View}
 use Rattle.core_state.specs.HandOvers.{MayHandOver, hand_without, hand_with}
 use Rattle.core_state.specs.MoveSteps.{AllowedMove, view_after_move}
-use Rattle.core_state.specs.Sound.{Sound}
 use Rattle.core_state.specs.Steps.{Allowed, view_after}
 use Rattle.core_state.specs.Stepped.{word_found}
 use Rattle.core_state.specs.Views.{Has}
-use Rattle.core_state.proofs.Lists.{at_set, within}
 use Rattle.core_state.proofs.SoundSteps.{steps_keep_sound}
 use Rattle.core_moves.proofs.HandOvers.{hand_overs_keep_sound}
 use Rattle.core_moves.proofs.SoundMoves.{moves_keep_sound}
@@ -35,9 +32,10 @@ use Rattle.core_actors.specs.declared.action.Action.{Action}
 use Rattle.core_actors.specs.declared.action.Action.TheVariants as actions
 use Rattle.core_actors.specs.declared.action.Heard.{Heard}
 use Rattle.core_actors.specs.declared.action.Heard.TheVariants as heard
-use Rattle.core_actors.specs.declared.action.SpaceCall.TheVariants.{Lease, Return}
+use Rattle.core_actors.specs.declared.action.SpaceCall.TheVariants.{Lease, Return, Online}
 use Rattle.core_actors.specs.Actions.{heard_by}
 use Rattle.core_actors.specs.Fits.{Fits}
+use Rattle.core_actors.specs.Hosts.{host_ended, host_action}
 use Rattle.core_actors.specs.Owners.{OwnerState, owner_at_start, owner_ended, next_action, owner_after}
 use Rattle.core_actors.proofs.AllowedMoves.{next_move_allowed}
 use Rattle.core_actors.proofs.AllowedSteps.{next_step_allowed}
@@ -45,81 +43,17 @@ use Rattle.core_actors.proofs.AtRest.{lease_allowed}
 use Rattle.core_actors.proofs.FitActions.{fits_after_step, fits_after_move, fits_after_lease, fits_after_refusal, fits_after_return}
 use Rattle.core_actors.proofs.StaysUnderWay.{way_after_step, way_after_move, way_after_lease, way_after_refusal, way_after_return}
 use Rattle.replay.specs.FramesOut.{space_now}
-use Rattle.replay.specs.Keeping.{HaveNumbers, IsInOrder, IsIdle, AreSeatsKept, IsKept}
-use Rattle.replay.specs.Machine.{Scene, Machine, owner_of, scene_of, with_scene, after_lease, after_action, after_turn}
+use Rattle.replay.specs.Keeping.{IsInOrder, AreSeatsKept, IsKept}
+use Rattle.replay.specs.Machine.{Scene, Machine, owner_of, scene_of, with_scene, after_lease, after_action, host_scene_of, with_host_scene, after_host_action, after_turn}
 use Rattle.replay.specs.Runs.{opening, setting}
+use Rattle.replay.proofs.HostSeatsKept.{host_seats_kept}
 use Rattle.replay.proofs.IdleSeats.{idle_gives, idle_takes}
 use Rattle.replay.proofs.InOrder.{step_in_order}
 use Rattle.replay.proofs.MovesInOrder.{hand_in_order, move_in_order}
-use Rattle.replay.proofs.OwnerSeats.{free_of, owner_view, free_view, owner_below, owner_has, owner_fits, owner_sized, seats_apart, free_has, free_idle, lease_in_hand, lease_handed, return_handed}
+use Rattle.replay.proofs.OwnerSeats.{free_of, unplugged_of, owner_view, free_view, owner_below, owner_has, owner_fits, owner_sized, seats_apart, free_has, free_idle, lease_in_hand, lease_handed, return_handed}
 use Rattle.replay.proofs.OwnersStay.{stays}
+use Rattle.replay.proofs.SeatsInPlace.{FitsAt, AreInPlace, in_place, kept_from, owner_placed, idle_placed}
 use Rattle.replay.proofs.Storable.{next_step_storable}
-
--- ---- the seats without their words
-
--- what each owner's seat has
-abbrev FitsAt : Scenario → ℕ → OwnerState → View → Type 0
-FitsAt s j b w = (b.owner ≡ suc j) × Fits s.geometry (opening s) (script_of s.owners (suc j)) w b × HaveNumbers b.left
-
--- all that is kept of seats but that the snapshot is sound
-record AreInPlace (s : Scenario) (l : List OwnerState) (views : List View) : Type 0 where
-  pub owners : length l ≡ length s.owners
-  pub seats : length views ≡ length s.owners + 4
-  pub fits : (i : ℕ) (a : OwnerState) (v : View) → slice_get l i ≡ Some a → Has views (suc i) v → FitsAt s i a v
-  pub in_order : (i : ℕ) (v : View) → Has views i v → IsInOrder v
-  pub others : (i : ℕ) (v : View) → Has views i v → (i ≡ 0) ⊎ (length s.owners < i) → IsIdle (opening s) v
-
-in_place : (s : Scenario) (m : Machine) → AreSeatsKept s m → AreInPlace s m.owners m.snapshot.views
-in_place s m p = record { owners = p.owners; seats = p.seats; fits = p.fits; in_order = p.in_order; others = p.others }
-
-module _ (s : Scenario) (l : List OwnerState) (views : List View) (p : AreInPlace s l views) where
-  -- with another owner, and its seat
-  owner_placed : (i : ℕ) (b : OwnerState) (w : View) → i < length s.owners → FitsAt s i b w → IsInOrder w → AreInPlace s (set l i b) (set views (suc i) w)
-  owner_placed i b w below fine order = record {
-    owners = length-set l i b ∙ p.owners;
-    seats = length-set views (suc i) w ∙ p.seats;
-    fits = λ j c x at_j has_j. ⊎_elim
-        (λ q. ⊎_elim
-        (λ u. subst (λ (n : ℕ). FitsAt s n c x) (sym q.0) (subst (λ (d : OwnerState). FitsAt s i d x) q.1 (subst (λ (y : View). FitsAt s i b y) u.1 fine)))
-        (λ u. absurd (u.0 (ap suc q.0)))
-        (at_set views (suc i) (suc j) w x has_j))
-        (λ q. ⊎_elim
-        (λ u. absurd (q.0 (let e = u.0 in omega arith)))
-        (λ u. p.fits j c x q.1 u.1)
-        (at_set views (suc i) (suc j) w x has_j))
-        (at_set l i j b c at_j);
-    in_order = λ j x has_j. ⊎_elim
-        (λ u. subst (λ (y : View). IsInOrder y) u.1 order)
-        (λ u. p.in_order j x u.1)
-        (at_set views (suc i) j w x has_j);
-    others = λ j x has_j other. ⊎_elim
-        (λ u. let e = u.0 in absurd (⊎_elim (λ z. omega arith) (λ z. omega arith) other))
-        (λ u. p.others j x u.1 other)
-        (at_set views (suc i) j w x has_j);
-  }
-
-  -- with another view of an idle seat
-  idle_placed : (seat : ℕ) (w : View) → length s.owners < seat → IsIdle (opening s) w → IsInOrder w → AreInPlace s l (set views seat w)
-  idle_placed seat w past idle order = record {
-    owners = p.owners;
-    seats = length-set views seat w ∙ p.seats;
-    fits = λ j c x at_j has_j. ⊎_elim
-        (λ u. let e = u.0 in let lt = within l j c at_j in let n = p.owners in absurd (omega arith))
-        (λ u. p.fits j c x at_j u.1)
-        (at_set views seat (suc j) w x has_j);
-    in_order = λ j x has_j. ⊎_elim
-        (λ u. subst (λ (y : View). IsInOrder y) u.1 order)
-        (λ u. p.in_order j x u.1)
-        (at_set views seat j w x has_j);
-    others = λ j x has_j other. ⊎_elim
-        (λ u. subst (λ (y : View). IsIdle (opening s) y) u.1 idle)
-        (λ u. p.others j x u.1 other)
-        (at_set views seat j w x has_j);
-  }
-
-kept_from : (s : Scenario) (words : List ℕ) (views : List View) (l : List OwnerState) (journal : List SpaceAction) → Sound (opening s) words views → AreInPlace s l views
-    → AreSeatsKept s (record { snapshot = record { words = words; views = views }; owners = l; journal = journal })
-kept_from s words views l journal sound p = record { sound = sound; owners = p.owners; seats = p.seats; fits = p.fits; in_order = p.in_order; others = p.others }
 
 -- ---- an action of an owner
 
@@ -128,7 +62,7 @@ module _ (s : Scenario) (m : Machine) (r : IsRunnable s) (kept : IsKept s m) (i 
   now = record { snapshot = m.snapshot; owner = a; journal = m.journal }
 
   abbrev AreKeptWith : Scene → Type 0
-  AreKeptWith x = AreSeatsKept s (record { snapshot = x.snapshot; owners = set m.owners i x.owner; journal = x.journal })
+  AreKeptWith x = AreSeatsKept s (record m { snapshot = x.snapshot; owners = set m.owners i x.owner; journal = x.journal })
 
   abbrev v : View
   v = owner_view m i
@@ -174,7 +108,7 @@ module _ (s : Scenario) (m : Machine) (r : IsRunnable s) (kept : IsKept s m) (i 
     fits_stepped = fits_after_step OneOwner s.geometry (opening s) v script a step found fit.1 going is (way_after_step s.geometry a fit.1.calls fit.1.under_way going step found is)
 
     step_kept : AreKeptWith (after_action (setting s) (suc i) (free_of m) now (actions.Step step))
-    step_kept = kept_from s _ _ _ m.journal
+    step_kept = kept_from s _
         (steps_keep_sound OneOwner (opening s) m.snapshot.words m.snapshot.views (suc i) v step has kept.seats.sound may_step)
         (owner_placed s m.owners m.snapshot.views (in_place s m kept.seats) i (owner_after a (heard_by step found)) (view_after OneOwner v step found) below (fits_with (heard_by step found) _ fits_stepped)
         (step_in_order (opening s) m.snapshot.words v order OneOwner m.snapshot.views (suc i) has kept.seats.sound.bounds step may_step))
@@ -189,7 +123,7 @@ module _ (s : Scenario) (m : Machine) (r : IsRunnable s) (kept : IsKept s m) (i 
     fits_moved = fits_after_move s.geometry (opening s) m.snapshot.words m.snapshot.views (suc i) v script a step has kept.seats.sound fit.1 going is may_move (way_after_move s.geometry a fit.1.calls fit.1.under_way going step is)
 
     move_kept : AreKeptWith (after_action (setting s) (suc i) (free_of m) now (actions.Move step))
-    move_kept = kept_from s _ _ _ m.journal
+    move_kept = kept_from s _
         (moves_keep_sound OneOwner (opening s) m.snapshot.words m.snapshot.views (suc i) v step has (record { few = let n = r.limits.frames in omega arith }) kept.seats.sound may_move)
         (owner_placed s m.owners m.snapshot.views (in_place s m kept.seats) i (owner_after a heard.Nothing) (view_after_move OneOwner v step) below (fits_with heard.Nothing _ fits_moved)
         (move_in_order v OneOwner step order))
@@ -198,7 +132,7 @@ module _ (s : Scenario) (m : Machine) (r : IsRunnable s) (kept : IsKept s m) (i 
 
   module _ (page : PageNo) (kind : Kind) (is : next_action a ≡ actions.Space (Lease page kind)) where
     refused_kept : AreKeptWith (after_lease (suc i) (free_of m) now page kind None)
-    refused_kept = kept_from s m.snapshot.words m.snapshot.views _ m.journal kept.seats.sound
+    refused_kept = kept_from s _ kept.seats.sound
         (subst (λ (views : List View). AreInPlace s (set m.owners i (owner_after a (heard.NoFrame (length m.journal)))) views) (set-get_or m.snapshot.views (suc i) _)
         (owner_placed s m.owners m.snapshot.views (in_place s m kept.seats) i (owner_after a (heard.NoFrame (length m.journal))) v below
         (fits_with (heard.NoFrame (length m.journal)) v
@@ -225,10 +159,10 @@ module _ (s : Scenario) (m : Machine) (r : IsRunnable s) (kept : IsKept s m) (i 
           (way_after_lease s.geometry a fit.1.calls fit.1.under_way going page kind frame is)
 
       leased_kept : AreKeptWith (after_lease (suc i) (free_of m) now page kind (Some l))
-      leased_kept = kept_from s _ _ _ _
+      leased_kept = kept_from s _
           (hand_overs_keep_sound (opening s) m.snapshot.words m.snapshot.views (free_of m) (suc i) free v l.frame 1 (free_has s m kept) has (seats_apart s m kept i a at) kept.seats.sound may_lease)
           (owner_placed s m.owners (set m.snapshot.views (free_of m) left_free)
-          (idle_placed s m.owners m.snapshot.views (in_place s m kept.seats) (free_of m) left_free past (idle_gives (opening s) free (free_idle s m kept) v l.frame may_lease) (hand_in_order free _ free_order))
+          (idle_placed s m.owners m.snapshot.views (in_place s m kept.seats) (free_of m) left_free (inr past) (idle_gives (opening s) free (free_idle s m kept) v l.frame 1 may_lease) (hand_in_order free _ free_order))
           i (owner_after a (heard.Leased frame)) leased_view below (fits_with (heard.Leased frame) _ fits_leased) (hand_in_order v _ order))
 
     lease_kept : (got : Option Leased) → lease_of s.geometry (online_of s) (space_now s m) (suc i) kind ≡ got → AreKeptWith (after_lease (suc i) (free_of m) now page kind got)
@@ -251,16 +185,16 @@ module _ (s : Scenario) (m : Machine) (r : IsRunnable s) (kept : IsKept s m) (i 
     fits_returned = fits_after_return s.geometry (opening s) v script a frame fit.1 going is (way_after_return s.geometry a fit.1.calls fit.1.under_way going frame is)
 
     return_kept : AreKeptWith (after_action (setting s) (suc i) (free_of m) now (actions.Space (Return frame)))
-    return_kept = kept_from s _ _ _ _
+    return_kept = kept_from s _
         (hand_overs_keep_sound (opening s) m.snapshot.words m.snapshot.views (suc i) (free_of m) v free frame.0 1 has (free_has s m kept) (λ e. seats_apart s m kept i a at (sym e)) kept.seats.sound may_return)
         (idle_placed s (set m.owners i (owner_after a heard.Nothing)) (set m.snapshot.views (suc i) rid_view)
         (owner_placed s m.owners m.snapshot.views (in_place s m kept.seats) i (owner_after a heard.Nothing) rid_view below (fits_with heard.Nothing _ fits_returned) (hand_in_order v _ order))
-        (free_of m) got_free past (idle_takes (opening s) free (free_idle s m kept) v frame.0 may_return (owner_sized s m kept i a at frame.0)) (hand_in_order free _ free_order))
+        (free_of m) got_free (inr past) (idle_takes (opening s) free (free_idle s m kept) v frame.0 1 may_return (owner_sized s m kept i a at)) (hand_in_order free _ free_order))
 
   -- ---- any action
 
   same_kept : AreKeptWith now
-  same_kept = kept_from s m.snapshot.words m.snapshot.views _ m.journal kept.seats.sound
+  same_kept = kept_from s _ kept.seats.sound
       (subst (λ (views : List View). AreInPlace s (set m.owners i a) views) (set-get_or m.snapshot.views (suc i) _)
       (owner_placed s m.owners m.snapshot.views (in_place s m kept.seats) i a v below fit order))
 
@@ -269,14 +203,16 @@ module _ (s : Scenario) (m : Machine) (r : IsRunnable s) (kept : IsKept s m) (i 
   by_action (actions.Move step) is = move_kept step is
   by_action (actions.Space (Lease page kind)) is = lease_kept page kind is (lease_of s.geometry (online_of s) (space_now s m) (suc i) kind) refl
   by_action (actions.Space (Return frame)) is = return_kept frame is
+  by_action (actions.Space (Online block)) is = same_kept
+  by_action (actions.Device call) is = same_kept
   by_action actions.Ended is = same_kept
 
   abbrev acted : Scene
   acted = after_action (setting s) (suc i) (free_of m) now (next_action a)
 
   -- `n` is the place of the owner
-  acted_kept : (n : ℕ) → n ≡ i → AreSeatsKept s (record { snapshot = acted.snapshot; owners = set m.owners n acted.owner; journal = acted.journal })
-  acted_kept n e = subst (λ (k : ℕ). AreSeatsKept s (record { snapshot = acted.snapshot; owners = set m.owners k acted.owner; journal = acted.journal })) (sym e) (by_action (next_action a) refl)
+  acted_kept : (n : ℕ) → n ≡ i → AreSeatsKept s (record m { snapshot = acted.snapshot; owners = set m.owners n acted.owner; journal = acted.journal })
+  acted_kept n e = subst (λ (k : ℕ). AreSeatsKept s (record m { snapshot = acted.snapshot; owners = set m.owners k acted.owner; journal = acted.journal })) (sym e) (by_action (next_action a) refl)
 
 -- ---- a turn
 
@@ -292,7 +228,12 @@ owner_turn : (s : Scenario) (m : Machine) (k : ℕ) → IsRunnable s → IsKept 
 owner_turn s m k r kept true ended = kept.seats
 owner_turn s m k r kept false going = going_turn s m k r kept going
 
+host_turn : (s : Scenario) (m : Machine) → IsRunnable s → IsKept s m → (b : Bool) → host_ended m.host ≡ b
+    → AreSeatsKept s (if b then m else with_host_scene m (after_host_action s.geometry (free_of m) (unplugged_of m) (host_scene_of m) (host_action m.host)))
+host_turn s m r kept true ended = kept.seats
+host_turn s m r kept false going = host_seats_kept s m r kept going
+
 pub seats_kept : (s : Scenario) (m : Machine) (actor : Actor) → IsRunnable s → IsKept s m → AreSeatsKept s (after_turn (setting s) m actor)
 seats_kept s m (Owner k) r kept = owner_turn s m k r kept (owner_ended (owner_of m.owners k)) refl
-seats_kept s m Host r kept = kept.seats
+seats_kept s m Host r kept = host_turn s m r kept (host_ended m.host) refl
 seats_kept s m Scanner r kept = kept.seats
