@@ -1,3 +1,5 @@
+pub mod BlockFrames
+pub mod HandedFrames
 pub mod Members
 pub mod InOrder
 pub mod MovesInOrder
