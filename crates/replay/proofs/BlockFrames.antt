@@ -1,12 +1,13 @@
--- The frames of blocks: of a range of blocks, and of lists of blocks that have each block of others.
+-- The frames of blocks: of a range of blocks, and of a list of blocks without those of another.
 use Rattle.std.proofs.Common.{◌≡◌, ℕ, zero, suc, ◌+◌, ◌-◌, ◌*◌, ◌<◌, ◌≤◌, ◌⊎◌, Bool, true, false, not, ◌&&◌, ◌||◌, List, sym, ap, ◌∙◌, arith, inl, inr}
 use Rattle.std.specs.List.{range_with_len}
-use Rattle.std.proofs.lemmas.Bool.{cases_lt, cases_Bool, or_cases, or_left, or_right, and_parts, and_from, not-true, not_from_false, both_ways}
+use Rattle.std.proofs.lemmas.Bool.{cases_lt, cases_Bool, or_left, and_parts, and_from, not-true, not_from_false, both_ways}
 use Rattle.evac_model.specs.Geometry.{Sizes, first_frame, frame_count}
 use Rattle.evac_model.specs.Numbers.{is_in, is_between}
 use Rattle.evac_model.specs.SpaceJournal.{is_frame_of, is_frame_in}
 use Rattle.evac_model.proofs.Ranges.{between_inside, between_below, between_above}
 use Rattle.space.proofs.BlockFrames.{same_block, frame_in_witness, frame_in_from, both_true}
+use Rattle.space.proofs.Members.{is_in-range_with_len}
 
 -- ---- a range of blocks
 
@@ -25,6 +26,16 @@ between_joined a b c f low high = elim (cases_lt f b) [
   where
     lower : f < a → f < b → (is_between a b f || is_between b c f) ≡ is_between a c f
     lower below l = ap (λ (t : Bool). t || is_between b c f) (between_below a b f below) ∙ (between_below b c f l ∙ sym (between_below a c f below))
+
+between_bounds : (a c f : ℕ) → is_between a c f ≡ true → (a ≤ f) × (f < c)
+between_bounds a c f h = elim (cases_lt f a) [
+  | inl l ↦ absurd (both_ways _ (between_below a c f l) h)
+  | inr from ↦ elim (cases_lt f c) [ inl below ↦ (from, below) | inr g ↦ absurd (both_ways _ (between_above a c f g) h) ]
+]
+
+-- the blocks of a range
+pub range_bounds : (first n b : ℕ) → is_in b (range_with_len first n) ≡ true → (first ≤ b) × (b < first + n)
+range_bounds first n b h = between_bounds first (first + n) b (sym (is_in-range_with_len b first n) ∙ h)
 
 module _ (s : Sizes) where
   -- the first frame behind n blocks
@@ -49,19 +60,10 @@ module _ (s : Sizes) where
       ∙ ap (λ (k : ℕ). is_between (first_frame s first) k f) last
 
   module _ (first n f : ℕ) where
-    in_range_from : is_between (first_frame s first) (first_frame s (first + n)) f ≡ true → (first_frame s first ≤ f) × (f < first_frame s (first + n))
-    in_range_from h = elim (cases_lt f (first_frame s first)) [
-      | inl l ↦ absurd (both_ways _ (between_below (first_frame s first) (first_frame s (first + n)) f l) h)
-      | inr from ↦ elim (cases_lt f (first_frame s (first + n))) [
-        | inl below ↦ (from, below)
-        | inr g ↦ absurd (both_ways _ (between_above (first_frame s first) (first_frame s (first + n)) f g) h)
-      ]
-    ]
-
     -- a frame of the range, and one that isn't
     pub frame_within : is_frame_in s (range_with_len first n) f ≡ true → (first_frame s first ≤ f) × (f < first_frame s first + n * s.block)
     frame_within h =
-        let q = in_range_from (sym (frame_in-range first n f) ∙ h) in
+        let q = between_bounds (first_frame s first) (first_frame s (first + n)) f (sym (frame_in-range first n f) ∙ h) in
         let long = behind_blocks first n in
         (q.0, omega (arith, q.1, long))
 
@@ -89,20 +91,6 @@ module _ (s : Sizes) where
   -- ---- lists of blocks
 
   module _ (xs ys zs : List ℕ) (f : ℕ) where
-    -- each block of the two lists, and no other
-    pub frame_in-both : ((b : ℕ) → is_in b zs ≡ (is_in b xs || is_in b ys)) → is_frame_in s zs f ≡ (is_frame_in s xs f || is_frame_in s ys f)
-    frame_in-both h = both_true _ _
-        (λ t.
-        let w = frame_in_witness s zs f t in
-        elim (or_cases _ _ (sym (h w.0) ∙ w.1)) [
-          | inl one ↦ or_left _ _ (frame_in_from s xs w.0 f one w.2)
-          | inr other ↦ or_right _ _ (frame_in_from s ys w.0 f other w.2)
-        ])
-        (λ t. elim (or_cases _ _ t) [
-          | inl one ↦ let w = frame_in_witness s xs f one in frame_in_from s zs w.0 f (h w.0 ∙ or_left _ _ w.1) w.2
-          | inr other ↦ let w = frame_in_witness s ys f other in frame_in_from s zs w.0 f (h w.0 ∙ or_right _ _ w.1) w.2
-        ])
-
     -- each block of the one list that isn't of the other
     pub frame_in-without : ((b : ℕ) → is_in b zs ≡ (is_in b xs && not (is_in b ys))) → is_frame_in s zs f ≡ (is_frame_in s xs f && not (is_frame_in s ys f))
     frame_in-without h = both_true _ _
@@ -122,9 +110,3 @@ module _ (s : Sizes) where
           | inl gone ↦ absurd (both_ways _ (not-true _ parts.1) (frame_in_from s ys w.0 f gone w.2))
           | inr there ↦ not_from_false _ there
         ])) w.2)
-
-  -- lists with the same blocks
-  pub frame_in-same : (xs zs : List ℕ) (f : ℕ) → ((b : ℕ) → is_in b zs ≡ is_in b xs) → is_frame_in s zs f ≡ is_frame_in s xs f
-  frame_in-same xs zs f h = both_true _ _
-      (λ t. let w = frame_in_witness s zs f t in frame_in_from s xs w.0 f (sym (h w.0) ∙ w.1) w.2)
-      (λ t. let w = frame_in_witness s xs f t in frame_in_from s zs w.0 f (h w.0 ∙ w.1) w.2)

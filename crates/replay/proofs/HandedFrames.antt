@@ -63,16 +63,16 @@ pub record AreHanded (s : Sizes) (before after : List View) (from to : ℕ) (blo
   pub giver : (f : ℕ) → has_frame after from f ≡ (has_frame before from f && not (is_frame_in s blocks f))
   pub receiver : (f : ℕ) → has_frame after to f ≡ (has_frame before to f || is_frame_in s blocks f)
 
-with_true : (x y : Bool) → y ≡ true → (x && not y) ≡ false
-with_true x y h = and_right x (not y) (ap not h)
+but_all : (x y : Bool) → y ≡ true → (x && not y) ≡ false
+but_all x y h = and_right x (not y) (ap not h)
 
-with_false : (x y : Bool) → y ≡ false → (x && not y) ≡ x
-with_false true y h = ap not h
-with_false false y h = refl
+pub but_none : (x y : Bool) → y ≡ false → (x && not y) ≡ x
+but_none true y h = ap not h
+but_none false y h = refl
 
-or_same : (x y : Bool) → y ≡ false → (x || y) ≡ x
-or_same true y h = refl
-or_same false y h = h
+pub or_none : (x y : Bool) → y ≡ false → (x || y) ≡ x
+or_none true y h = refl
+or_none false y h = h
 
 -- the frames are those of a range of blocks
 module _ (s : Sizes) (o : Opening) (views : List View) (from to : ℕ) (apart : from ≢ to) (from_lt : from < length views) (to_lt : to < length views) (block count n : ℕ) (long : n ≡ count * s.block)
@@ -96,10 +96,10 @@ module _ (s : Sizes) (o : Opening) (views : List View) (from to : ℕ) (apart : 
       | inl in_them ↦
           let q = within_them f in_them in
           ap (λ (x : Option HandFrame). is_some x) (left_behind views from to apart from_lt to_lt (first_frame s block) n o may f q.0 q.1)
-          ∙ sym (with_true (has_frame views from f) (is_frame_in s blocks f) in_them)
+          ∙ sym (but_all (has_frame views from f) (is_frame_in s blocks f) in_them)
       | inr other ↦
           ap (λ (x : Option HandFrame). is_some x) (kept_by_giver views from to apart from_lt to_lt (first_frame s block) n o may f (outside_them f other))
-          ∙ sym (with_false (has_frame views from f) (is_frame_in s blocks f) other)
+          ∙ sym (but_none (has_frame views from f) (is_frame_in s blocks f) other)
     ];
     receiver = λ f. elim (cases_Bool (is_frame_in s blocks f)) [
       | inl in_them ↦
@@ -108,6 +108,6 @@ module _ (s : Sizes) (o : Opening) (views : List View) (from to : ℕ) (apart : 
           ∙ (may.in_hand f q.0 q.1 ∙ sym (or_right (has_frame views to f) (is_frame_in s blocks f) in_them))
       | inr other ↦
           ap (λ (x : Option HandFrame). is_some x) (kept_by_receiver views from to apart from_lt to_lt (first_frame s block) n o may f (outside_them f other))
-          ∙ sym (or_same (has_frame views to f) (is_frame_in s blocks f) other)
+          ∙ sym (or_none (has_frame views to f) (is_frame_in s blocks f) other)
     ];
   }
