@@ -1,3 +1,7 @@
+pub mod BlockFrames
+pub mod HandedFrames
+pub mod PlugAnswers
+pub mod HostBlocks
 pub mod Members
 pub mod InOrder
 pub mod MovesInOrder
@@ -13,6 +17,10 @@ pub mod HostActing
 pub mod HostSeatsKept
 pub mod SeatTurns
 pub mod OutForCalls
+pub mod HostPlaced
+pub mod PlugFrames
+pub mod OnlineFrames
+pub mod HostFrames
 pub mod FramesAfter
 pub mod FrameSteps
 pub mod FrameMoves
