@@ -22,6 +22,7 @@ pub mod CallEnds
 pub mod CallLeases
 pub mod CallSteps
 pub mod CallPlaces
+pub mod HostCalls
 pub mod CallTurns
 pub mod Starts
 pub mod StartFrames
