@@ -1,5 +1,5 @@
 -- The entries of seats, and each owner's calls, where one owner has made an action.
-use Rattle.std.proofs.Common.{◌≡◌, ◌≢◌, ℕ, suc, ◌<◌, List, [], ◌∷◌, ◌++◌, length, length-set, set, refl, sym, ap, ◌∙◌, subst, inl, inr, ⊎_elim, arith, Some}
+use Rattle.std.proofs.Common.{◌≡◌, ◌≢◌, ℕ, suc, ◌<◌, List, [], ◌∷◌, ◌++◌, length, length-set, set, refl, sym, ap, ◌∙◌, subst, ⊎_elim, arith, Some}
 use Rattle.std.specs.List.{slice_get}
 use Rattle.std.proofs.lemmas.Option.{same_Some, slice_get-get_or}
 use Rattle.evac_model.specs.declared.entry.Entry.{Entry}
@@ -36,11 +36,11 @@ same_set views others i w same long e j u has = ⊎_elim
     (λ q. same j u q.1)
     (at_set others i j w u has)
 
--- a frame that changes hands leaves all entries as they are
-pub handed_same : (views : List View) (from to frame : ℕ) → HaveSame views (views_after_hand_over views from to (view_of views from) (view_of views to) frame 1)
-handed_same views from to frame =
-    let giver : View = record (view_of views from) { hand = hand_without (view_of views from).hand frame 1 } in
-    let receiver : View = record (view_of views to) { hand = hand_with (view_of views to).hand (view_of views from).hand frame 1 } in
+-- frames that change hands leave all entries as they are
+pub handed_same : (views : List View) (from to first n : ℕ) → HaveSame views (views_after_hand_over views from to (view_of views from) (view_of views to) first n)
+handed_same views from to first n =
+    let giver : View = record (view_of views from) { hand = hand_without (view_of views from).hand first n } in
+    let receiver : View = record (view_of views to) { hand = hand_with (view_of views to).hand (view_of views from).hand first n } in
     same_set views (set views from giver) to receiver
     (same_set views views from giver (λ j u has. (u, has, refl)) refl refl)
     (length-set views from giver) refl
@@ -59,6 +59,21 @@ pub leaves_longer : (s : Scenario) (journal : List SpaceAction) (who : ℕ) (x :
 leaves_longer s journal who x mine = record {
   calls = λ other ne c es h. calls_other s journal x other (λ is. ne (sym is ∙ mine)) c es h;
   none = λ other ne h. other_push other journal x (λ is. ne (sym is ∙ mine)) ∙ h;
+}
+
+-- ---- an action of the host
+
+-- Each seat has the entries that it had, and the journal has at most an action of the driver more.
+pub driver_made : (s : Scenario) (m n : Machine) → AreCallsMade s m → n.owners ≡ m.owners → HaveSame m.snapshot.views n.snapshot.views → LeavesOthers s m.journal n.journal 0 → AreCallsMade s n
+driver_made s m n p same seats leaves = record {
+  owners = λ i a v is has.
+      let t = seats (suc i) v has in
+      leaves.calls (suc i) (λ e. omega arith) a v.entries
+      (subst (λ (l : List Entry). AreOwnersCallsMade s m.journal (suc i) a l) (sym t.2)
+      (p.owners i a t.0 (ap (λ (l : List OwnerState). slice_get l i) (sym same) ∙ is) t.1));
+  others = λ who far.
+      let long : length n.owners ≡ length m.owners = ap (λ (l : List OwnerState). length l) same in
+      leaves.none who (λ is. omega arith) (p.others who (omega arith));
 }
 
 -- ---- all owners
@@ -103,10 +118,10 @@ module _ (s : Scenario) (m : Machine) (p : AreCallsMade s m) (i : ℕ) (lt : i <
         (at_set m.owners i j b c is)
 
     -- `n` is the owner's place
-    pub turn_made : (n : ℕ) → n ≡ i → AreCallsMade s (record { snapshot = snapshot; owners = set m.owners n b; journal = journal })
+    pub turn_made : (n : ℕ) → n ≡ i → AreCallsMade s (record m { snapshot = snapshot; owners = set m.owners n b; journal = journal })
     turn_made n e = record {
       owners = λ j c u is has. owner_at j c u (subst (λ (k : ℕ). slice_get (set m.owners k b) j ≡ Some c) e is) has;
       others = λ who far.
           let long = length-set m.owners n b in
-          leaves.none who (λ is. ⊎_elim (λ z. omega arith) (λ g. omega arith) far) (p.others who (⊎_elim (λ z. inl z) (λ g. inr (omega arith)) far));
+          leaves.none who (λ is. omega arith) (p.others who (omega arith));
     }

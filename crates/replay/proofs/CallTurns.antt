@@ -32,20 +32,22 @@ use Rattle.core_actors.specs.declared.action.Action.{Action}
 use Rattle.core_actors.specs.declared.action.Action.TheVariants as actions
 use Rattle.core_actors.specs.declared.action.Heard.{Heard}
 use Rattle.core_actors.specs.declared.action.Heard.TheVariants as heard
-use Rattle.core_actors.specs.declared.action.SpaceCall.TheVariants.{Lease, Return}
+use Rattle.core_actors.specs.declared.action.SpaceCall.TheVariants.{Lease, Return, Online}
 use Rattle.core_actors.specs.Actions.{heard_by}
 use Rattle.core_actors.specs.Fits.{Fits}
+use Rattle.core_actors.specs.Hosts.{host_ended, host_action}
 use Rattle.core_actors.specs.Owners.{OwnerState, owner_at_start, owner_ended, next_action, one_made, word_in, after_step as owner_after_step, after_action as owner_after_action, owner_after}
 use Rattle.space.specs.JournaledSpace.{JournaledSpace}
 use Rattle.space.proofs.Leases.{refused_none}
 use Rattle.replay.specs.CallsMade.{AreOwnersCallsMade, AreCallsMade}
 use Rattle.replay.specs.FramesOut.{space_now}
 use Rattle.replay.specs.Keeping.{HaveNumbers, IsKept}
-use Rattle.replay.specs.Machine.{Machine, free_seat, handed, owner_of, scene_of, with_scene, after_lease, after_action, after_turn}
+use Rattle.replay.specs.Machine.{Machine, free_seat, unplugged_seat, handed, owner_of, scene_of, with_scene, after_lease, after_action, host_scene_of, with_host_scene, after_host_action, after_turn}
 use Rattle.replay.specs.Runs.{opening, setting}
 use Rattle.replay.proofs.CallLeases.{calls_after_lease, calls_after_refusal, calls_after_return}
 use Rattle.replay.proofs.CallPlaces.{handed_same, leaves_same, leaves_longer, entries_set, entries_same, turn_made}
 use Rattle.replay.proofs.CallSteps.{calls_stepped, calls_moved}
+use Rattle.replay.proofs.HostCalls.{host_calls_made}
 use Rattle.replay.proofs.SpaceNow.{space_is}
 
 -- ---- the owner after the action that it makes
@@ -111,7 +113,7 @@ module _ (s : Scenario) (m : Machine) (r : IsRunnable s) (p : IsKept s m) (i : �
       → AreCallsMade s (With (handed m.snapshot from to frame) (m.journal ++ y ∷ []) b)
   with_frame from to frame y b own made =
       turn_made s m p.calls i below b v.entries (handed m.snapshot from to frame) (m.journal ++ y ∷ [])
-      (entries_same s m p.calls i below (handed m.snapshot from to frame).views v has (handed_same m.snapshot.views from to frame)) made (leaves_longer s m.journal (suc i) y own) (suc i - 1) place
+      (entries_same s m p.calls i below (handed m.snapshot from to frame).views v has (handed_same m.snapshot.views from to frame 1)) made (leaves_longer s m.journal (suc i) y own) (suc i - 1) place
 
   abbrev Leasing : PageNo → Kind → Option Leased → Machine
   Leasing page kind o = with_scene m (suc i) (after_lease (suc i) (free_seat (length m.owners)) (record { snapshot = m.snapshot; owner = a; journal = m.journal }) page kind o)
@@ -146,14 +148,20 @@ module _ (s : Scenario) (m : Machine) (r : IsRunnable s) (p : IsKept s m) (i : �
 
   -- ---- any action
 
+  -- an action that isn't an owner's changes nothing
+  after_nothing : AreCallsMade s (With m.snapshot m.journal a)
+  after_nothing =
+      turn_made s m p.calls i below a v.entries m.snapshot m.journal
+      (entries_same s m p.calls i below m.snapshot.views v has (λ j u there. (u, there, refl))) mine (leaves_same s m.journal (suc i)) (suc i - 1) place
+
   by_action : (x : Action) → next_action a ≡ x → AreCallsMade s (After x)
   by_action (actions.Step step) is = after_a_step step is
   by_action (actions.Move step) is = after_a_move step is
   by_action (actions.Space (Lease page kind)) is = after_a_lease page kind is (lease_of s.geometry (online_of s) (space_now s m) (suc i) kind) refl
   by_action (actions.Space (Return frame)) is = after_a_return frame is
-  by_action actions.Ended is =
-      turn_made s m p.calls i below a v.entries m.snapshot m.journal
-      (entries_same s m p.calls i below m.snapshot.views v has (λ j u there. (u, there, refl))) mine (leaves_same s m.journal (suc i)) (suc i - 1) place
+  by_action (actions.Space (Online block)) is = after_nothing
+  by_action (actions.Device call) is = after_nothing
+  by_action actions.Ended is = after_nothing
 
 -- ---- a turn
 
@@ -169,8 +177,13 @@ owner_turn : (s : Scenario) (m : Machine) (i : ℕ) → IsRunnable s → IsKept 
 owner_turn s m i r p true ended = p.calls
 owner_turn s m i r p false going = going_turn s m i r p going
 
+host_turn : (s : Scenario) (m : Machine) → IsRunnable s → IsKept s m → (b : Bool) → host_ended m.host ≡ b
+    → AreCallsMade s (if b then m else with_host_scene m (after_host_action s.geometry (free_seat (length m.owners)) (unplugged_seat (length m.owners)) (host_scene_of m) (host_action m.host)))
+host_turn s m r p true ended = p.calls
+host_turn s m r p false going = host_calls_made s m r p going
+
 pub calls_made : (s : Scenario) (m : Machine) (actor : Actor) → IsRunnable s → IsKept s m → AreCallsMade s (after_turn (setting s) m actor)
 calls_made s m (Owner zero) r p = p.calls
 calls_made s m (Owner (suc i)) r p = owner_turn s m i r p (owner_ended (owner_of m.owners (suc i))) refl
-calls_made s m Host r p = p.calls
+calls_made s m Host r p = host_turn s m r p (host_ended m.host) refl
 calls_made s m Scanner r p = p.calls

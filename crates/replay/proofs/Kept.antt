@@ -18,6 +18,7 @@ use Rattle.replay.specs.Machine.{Machine, after_turn}
 use Rattle.replay.specs.Runs.{owners_from, setting, machine_at_start}
 use Rattle.replay.proofs.CallTurns.{calls_made}
 use Rattle.replay.proofs.FrameTurns.{frames_placed}
+use Rattle.replay.proofs.HostRuns.{host_kept, host_kept_at_start}
 use Rattle.replay.proofs.SeatTurns.{seats_kept}
 use Rattle.replay.proofs.StartFrames.{frames_at_start}
 use Rattle.replay.proofs.Starts.{seats_at_start, new_at_start}
@@ -76,7 +77,7 @@ calls_at_start s r = record {
 -- ---- the machine
 
 pub starts_are_kept : (s : Scenario) → IsRunnable s → IsKept s (machine_at_start s)
-starts_are_kept s r = record { seats = seats_at_start s r; frames = frames_at_start s r; calls = calls_at_start s r }
+starts_are_kept s r = record { seats = seats_at_start s r; frames = frames_at_start s r; calls = calls_at_start s r; host = host_kept_at_start s r }
 
 pub turns_are_kept : (s : Scenario) (m : Machine) (actor : Actor) → IsRunnable s → IsKept s m → IsKept s (after_turn (setting s) m actor)
-turns_are_kept s m actor r kept = record { seats = seats_kept s m actor r kept; frames = frames_placed s m actor r kept; calls = calls_made s m actor r kept }
+turns_are_kept s m actor r kept = record { seats = seats_kept s m actor r kept; frames = frames_placed s m actor r kept; calls = calls_made s m actor r kept; host = host_kept s m actor r kept }

@@ -33,6 +33,8 @@ pub mod CallEnds
 pub mod CallLeases
 pub mod CallSteps
 pub mod CallPlaces
+pub mod HostCalls
+pub mod HostRuns
 pub mod CallTurns
 pub mod Starts
 pub mod StartFrames
