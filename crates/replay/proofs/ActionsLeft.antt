@@ -1,13 +1,17 @@
--- The actions that all owners may still make: no turn raises them, and an action lowers them, but for a take
--- that finds its page taken.
-use Rattle.std.proofs.Common.{◌≡◌, ◌⊎◌, ℕ, suc, ◌+◌, ◌<◌, ◌≤◌, ◌==◌, cond, Bool, false, List, [], ◌∷◌, if◌then◌else◌, refl, ap, ◌∙◌, arith, inl, inr, ⊎_elim, Some}
+-- The actions that all owners and the host may still make: no turn raises them, and an action lowers them, but for
+-- a take that finds its page taken.
+use Rattle.std.proofs.Common.{◌≡◌, ◌⊎◌, ◌↔◌, ℕ, suc, ◌+◌, ◌<◌, ◌≤◌, ◌==◌, cond, Bool, true, false, List, [], ◌∷◌, length, if◌then◌else◌, refl, ap, ◌∙◌, arith, suc-mul, inl, inr, ⊎_elim, Option, None, Some}
 use Rattle.std.specs.List.{sum_by, slice_get}
 use Rattle.std.proofs.lemmas.Option.{slice_get-get_or}
 use native.Mathlib.Decide.{ℕ_discrete}
 use mathlib.Core.Logic.{dite}
 use Rattle.evac_model.specs.declared.scenario.Actor.{Actor}
-use Rattle.evac_model.specs.declared.scenario.Actor.TheVariants.{Owner}
+use Rattle.evac_model.specs.declared.scenario.Actor.TheVariants.{Owner, Host}
 use Rattle.evac_model.specs.declared.scenario.Scenario.{Scenario}
+use Rattle.evac_model.specs.declared.host.HostCommand.{HostCommand}
+use Rattle.evac_model.specs.declared.host.HostResult.{HostResult}
+use Rattle.evac_model.specs.Geometry.{Sizes}
+use Rattle.evac_model.specs.HostCommands.{BlockRange}
 use Rattle.evac_model.specs.Scripts.{script_of}
 use Rattle.evac_words.specs.Word.{taken_bit}
 use Rattle.core_state.specs.declared.step.Step.{Step}
@@ -18,17 +22,41 @@ use Rattle.core_actors.specs.declared.action.Action.{Action}
 use Rattle.core_actors.specs.declared.action.Action.TheVariants as actions
 use Rattle.core_actors.specs.declared.action.Heard.{Heard}
 use Rattle.core_actors.specs.declared.action.Heard.TheVariants.{Word}
+use Rattle.core_actors.specs.Hosts.{HostState, host_ended, host_actions_left, IsHostUnderWay}
 use Rattle.core_actors.specs.Owners.{OwnerState, one_made, owner_ended, next_action, word_in, after_action, owner_after}
 use Rattle.core_actors.specs.Counts.{actions_left, FindsTakenBy, FindsTaken}
 use Rattle.core_actors.specs.Fits.{Fits}
+use Rattle.core_actors.proofs.HostCounts.{host_fewer}
 use Rattle.core_actors.proofs.Left.{actions_fewer}
 use Rattle.replay.specs.Machine.{Setting, Machine, after_turn, after_turns}
 use Rattle.replay.specs.Runs.{opening, setting}
 use Rattle.replay.specs.Keeping.{IsKept}
-use Rattle.replay.proofs.Turns.{found_by, heard_of, found_at, heard_at, TurnOf, rests, acts, turn_of, owners_after}
+use Rattle.replay.proofs.Turns.{found_by, heard_of, found_at, heard_at, TurnOf, rests, acts, host_acts, turn_of, owners_after, host_stays, owners_stay, host_hears_of_turn}
+
+abbrev pub owner_actions_left : List OwnerState → ℕ
+owner_actions_left owners = sum_by actions_left owners
 
 abbrev pub all_actions_left : Machine → ℕ
-all_actions_left m = sum_by actions_left m.owners
+all_actions_left m = owner_actions_left m.owners + host_actions_left m.host
+
+-- ---- the host
+
+module _ (s : Sizes) (number : ℕ) (online : BlockRange) where
+  abbrev host_with : List HostCommand → Option HostResult → HostState
+  host_with left result = record { sizes = s; left = left; number = number; result = result; online = online }
+
+  abbrev EndsWithNone : List HostCommand → Option HostResult → Type 0
+  EndsWithNone left result = IsHostUnderWay (host_with left result) → (host_actions_left (host_with left result) ≡ 0) ↔ (host_ended (host_with left result) ≡ true)
+
+  ends_with_none : (left : List HostCommand) (result : Option HostResult) → EndsWithNone left result
+  ends_with_none [] None way = (λ none. refl, λ ended. dite (ℕ_discrete online.count 0) (λ zero. omega arith) (λ some. absurd (let going = way.some (omega arith) in cc)))
+  ends_with_none [] (Some given) way = absurd (let going = way.some (way.asked.0 refl) in cc)
+  ends_with_none (c ∷ cs) None way = (λ none. absurd (let many = suc-mul (length cs) (s.managed + 1) in omega arith), λ ended. absurd (cc))
+  ends_with_none (c ∷ cs) (Some given) way = (λ none. absurd (let some = way.asked.0 refl in omega arith), λ ended. absurd (cc))
+
+-- a host has no action left just where it has ended
+pub host_none_left : (h : HostState) → IsHostUnderWay h → (host_actions_left h ≡ 0) ↔ (host_ended h ≡ true)
+host_none_left h way = ends_with_none h.sizes h.number h.online h.left h.result way
 
 -- ---- takes that find their page taken
 
@@ -44,6 +72,7 @@ finds_taken_or_not : (x : Action) (found : ℕ) → FindsTaken x found ⊎ ¬ Fi
 finds_taken_or_not (actions.Step step) found = step_finds_taken_or_not step found
 finds_taken_or_not (actions.Move step) found = inr (λ h. h)
 finds_taken_or_not (actions.Space call) found = inr (λ h. h)
+finds_taken_or_not (actions.Device call) found = inr (λ h. h)
 finds_taken_or_not actions.Ended found = inr (λ h. h)
 
 module _ (c : Setting) (m : Machine) (seat : ℕ) where
@@ -57,6 +86,7 @@ module _ (c : Setting) (m : Machine) (seat : ℕ) where
   finds_what_it_hears (actions.Step (Release end)) word e taken = taken
   finds_what_it_hears (actions.Move step) word e taken = taken
   finds_what_it_hears (actions.Space call) word e taken = taken
+  finds_what_it_hears (actions.Device call) word e taken = taken
   finds_what_it_hears actions.Ended word e taken = taken
 
   -- a take that finds its page taken is made again
@@ -73,6 +103,7 @@ module _ (c : Setting) (m : Machine) (seat : ℕ) where
   take_again a (actions.Step (Release end)) going is taken = absurd taken
   take_again a (actions.Move step) going is taken = absurd taken
   take_again a (actions.Space call) going is taken = absurd taken
+  take_again a (actions.Device call) going is taken = absurd taken
   take_again a actions.Ended going is taken = absurd taken
 
 -- ---- an action, and a turn
@@ -89,8 +120,9 @@ module _ (s : Scenario) (m : Machine) (kept : IsKept s m) where
     left_after : all_actions_left (after_turn (setting s) m (Owner (suc i))) + actions_left a ≡ all_actions_left m + actions_left (owner_after a (heard_at (setting s) m i a))
     left_after =
         let new : OwnerState = owner_after a (heard_at (setting s) m i a) in
-        let sum = ap (λ (l : List OwnerState). sum_by actions_left l) (owners_after (setting s) m i a at going) in
-        omega (arith, sum, sum_by_replaced actions_left m.owners i a new at)
+        let sum = ap owner_actions_left (owners_after (setting s) m i a at going) in
+        let host = ap host_actions_left (host_stays (setting s) m (suc i)) in
+        omega (arith, sum, host, sum_by_replaced actions_left m.owners i a new at)
 
     -- an action, which is no take that finds its page taken, lowers them
     pub action_lowers : ¬ FindsTaken (next_action a) (found_at (setting s) m i a) → all_actions_left (after_turn (setting s) m (Owner (suc i))) < all_actions_left m
@@ -108,6 +140,14 @@ module _ (s : Scenario) (m : Machine) (kept : IsKept s m) where
     action_never_raises : all_actions_left (after_turn (setting s) m (Owner (suc i))) ≤ all_actions_left m
     action_never_raises = ⊎_elim action_keeps (λ free. let l = action_lowers free in omega arith) (finds_taken_or_not (next_action a) (found_at (setting s) m i a))
 
+  -- an action of the host lowers them
+  pub host_lowers : host_ended m.host ≡ false → all_actions_left (after_turn (setting s) m Host) < all_actions_left m
+  host_lowers going =
+      let owners = ap owner_actions_left (owners_stay (setting s) m) in
+      let heard = host_hears_of_turn (setting s) m going in
+      let host = ap host_actions_left heard.1 in
+      omega (arith, owners, host, host_fewer m.host heard.0 kept.host.under_way going)
+
   pub turn_never_raises : (actor : Actor) → all_actions_left (after_turn (setting s) m actor) ≤ all_actions_left m
   turn_never_raises actor = by_kind (turn_of (setting s) m actor) where
     by_kind : TurnOf (setting s) m actor → all_actions_left (after_turn (setting s) m actor) ≤ all_actions_left m
@@ -115,6 +155,9 @@ module _ (s : Scenario) (m : Machine) (kept : IsKept s m) where
     by_kind (acts i a is at going) =
         let same = ap (λ (x : Actor). all_actions_left (after_turn (setting s) m x)) is in
         omega (arith, same, action_never_raises i a at going)
+    by_kind (host_acts is going) =
+        let same = ap (λ (x : Actor). all_actions_left (after_turn (setting s) m x)) is in
+        omega (arith, same, host_lowers going)
 
 -- ---- turns
 

@@ -6,14 +6,15 @@ use Rattle.evac_model.specs.declared.scenario.Drawn.{Drawn}
 use Rattle.evac_model.specs.declared.scenario.Scenario.{Scenario}
 use Rattle.evac_model.specs.declared.scenario.Turn.{Turn}
 use Rattle.evac_model.specs.Scenarios.{IsRunnable}
+use Rattle.evac_model.specs.Geometry.{Sizes, IsWithinLimits, frame_count}
 use Rattle.evac_model.specs.ScenarioGrammar.{call_count}
 use Rattle.evac_model.specs.Turns.{IsDraw}
 use Rattle.evac_model.proofs.Bounds.{power_to_512_most}
 use Rattle.replay.specs.Machine.{Run, run_after, after_turns}
 use Rattle.replay.specs.Keeping.{IsKept}
 use Rattle.replay.specs.ReplayInside.{ReplayState, replay_of}
-use Rattle.replay.specs.Runs.{setting, machine_at_start, AllEnded, IsScheduledRun}
-use Rattle.replay.specs.Schedule.{actors, named_turns, drawn_turns, rounds, schedule, draw_count, round_bound}
+use Rattle.replay.specs.Runs.{setting, machine_at_start, HaveEnded, IsScheduledRun}
+use Rattle.replay.specs.Schedule.{actors, named_turns, drawn_turns, rounds, schedule, draw_count, round_bound, round_count}
 use Rattle.replay.proofs.ActionsLeft.{turns_keep}
 use Rattle.replay.proofs.Ends.{runs_end_if_kept}
 use Rattle.replay.proofs.Kept.{starts_are_kept, turns_are_kept}
@@ -29,18 +30,44 @@ pub few_draws : (d : Option Drawn) → IfSome d IsDraw → draw_count d ≤ 2 ^ 
 few_draws None is = omega arith
 few_draws (Some d) is = is.most
 
-pub few_rounds : (s : Scenario) → IsRunnable s → round_bound s.geometry.cells (call_count s.owners) ≤ 1 + 1048576 * 518
-few_rounds s runnable =
-    let cells = power_to_512_most s.geometry.cells runnable.limits.cells in
-    let calls : call_count s.owners ≤ 1048576 = runnable.count in
-    let more : s.geometry.cells + 6 ≤ 518 = omega arith in
-    let most = mul-le-mul calls more in omega arith
+-- the most actions of the calls, and those that a command and all commands are counted as
+abbrev most_of_calls : ℕ
+most_of_calls = 1048576 * 518
 
-pub few_turns : (s : Scenario) (n most : ℕ) → IsRunnable s → n ≡ length s.owners → most ≡ round_bound s.geometry.cells (call_count s.owners) → (n + 2) * most ≤ 18 * (1 + 1048576 * 518)
+abbrev most_of_command : ℕ
+most_of_command = 65536 * 5668 + 9 * 65536 + 4
+
+abbrev pub most_rounds : ℕ
+most_rounds = 1 + most_of_calls + 256 * most_of_command
+
+few_by_calls : (g : Sizes) (calls : ℕ) → IsWithinLimits g → calls ≤ 2 ^ 20 → calls * (g.cells + 6) ≤ most_of_calls
+few_by_calls g calls limits few =
+    let cells = power_to_512_most g.cells limits.cells in
+    let some : calls ≤ 1048576 = few in
+    let more : g.cells + 6 ≤ 518 = omega arith in
+    mul-le-mul some more
+
+few_by_frames : (g : Sizes) → IsWithinLimits g → frame_count g * (11 * g.cells + 36) ≤ 65536 * 5668
+few_by_frames g limits =
+    let cells = power_to_512_most g.cells limits.cells in
+    let more : 11 * g.cells + 36 ≤ 5668 = omega arith in
+    mul-le-mul limits.frames more
+
+few_by_command : (g : Sizes) → IsWithinLimits g → frame_count g * (11 * g.cells + 36) + 9 * g.managed + 4 ≤ most_of_command
+few_by_command g limits = let managed = limits.managed.1 in omega (arith, few_by_frames g limits)
+
+few_by_commands : (g : Sizes) (commands : ℕ) → IsWithinLimits g → commands ≤ 256 → commands * (frame_count g * (11 * g.cells + 36) + 9 * g.managed + 4) ≤ 256 * most_of_command
+few_by_commands g commands limits few = mul-le-mul few (few_by_command g limits)
+
+pub few_rounds : (s : Scenario) → IsRunnable s → round_count s ≤ most_rounds
+few_rounds s runnable =
+    omega (arith, few_by_calls s.geometry (call_count s.owners) runnable.limits runnable.count, few_by_commands s.geometry (length s.host) runnable.limits runnable.few)
+
+pub few_turns : (s : Scenario) (n most : ℕ) → IsRunnable s → n ≡ length s.owners → most ≡ round_count s → (n + 2) * most ≤ 18 * most_rounds
 few_turns s n most runnable count is =
     let owners = runnable.owners in
     let few : n + 2 ≤ 18 = omega arith in
-    let bounded : most ≤ 1 + 1048576 * 518 = subst (λ (k : ℕ). k ≤ 1 + 1048576 * 518) (sym is) (few_rounds s runnable) in
+    let bounded : most ≤ most_rounds = subst (λ (k : ℕ). k ≤ most_rounds) (sym is) (few_rounds s runnable) in
     mul-le-mul few bounded
 
 -- ---- all turns were made
@@ -66,22 +93,22 @@ pub record IsDone (s : Scenario) (r : Run) : Type 0 where
   pub run : IsScheduledRun s r.machine
   pub kept : IsKept s r.machine
 
-pub done : (s : Scenario) (r : Run) (most : ℕ) → IsRunnable s → most ≡ round_bound s.geometry.cells (call_count s.owners) → r ≡ run_of_schedule s most → IsDone s r
+pub done : (s : Scenario) (r : Run) (most : ℕ) → IsRunnable s → most ≡ round_count s → r ≡ run_of_schedule s most → IsDone s r
 done s r most runnable bound is = record {
   opened = ap (λ (x : Run). x.setting) is;
   run = record {
     made = ap (λ (x : Run). x.machine) is ∙ ap (λ (k : ℕ). after_turns (setting s) (machine_at_start s) (schedule s k)) bound;
     ended =
-        subst (λ (x : Run). AllEnded x.machine.owners) (sym is)
-        (subst (λ (k : ℕ). AllEnded (run_of_schedule s k).machine.owners) (sym bound) (runs_end_if_kept starts_are_kept turns_are_kept s runnable));
+        subst (λ (x : Run). HaveEnded x.machine) (sym is)
+        (subst (λ (k : ℕ). HaveEnded (run_of_schedule s k).machine) (sym bound) (runs_end_if_kept starts_are_kept turns_are_kept s runnable));
   };
   kept = subst (λ (x : Run). IsKept s x.machine) (sym is) (turns_keep s (λ m actor kept. turns_are_kept s m actor runnable kept) (machine_at_start s) (schedule s most) (starts_are_kept s runnable));
 }
 
 -- the turns of a replay, made one part after another
 pub finished : (s : Scenario) (start : ReplayState) (named drawn last : Run) (turns : List Turn) (n most : ℕ) → IsRunnable s → start ≡ replay_of s → turns ≡ start.named → n ≡ length start.run.machine.owners
-    → most ≡ round_bound start.geometry.cells start.calls → named ≡ run_after start.run (named_turns turns) → drawn ≡ run_after named (drawn_turns (actors n) start.drawn) → last ≡ run_after drawn (rounds (actors n) most) → IsDone s last
+    → most ≡ round_bound start.geometry start.calls (length start.commands) → named ≡ run_after start.run (named_turns turns) → drawn ≡ run_after named (drawn_turns (actors n) start.drawn) → last ≡ run_after drawn (rounds (actors n) most) → IsDone s last
 finished s start named drawn last turns n most runnable is ts count bound first second third =
-    done s last most runnable (bound ∙ ap (λ (r : ReplayState). round_bound r.geometry.cells r.calls) is)
+    done s last most runnable (bound ∙ ap (λ (r : ReplayState). round_bound r.geometry r.calls (length r.commands)) is)
     (scheduled s start.run named drawn last turns start.drawn n most (ap (λ (r : ReplayState). r.run) is) (ts ∙ ap (λ (r : ReplayState). r.named) is) (ap (λ (r : ReplayState). r.drawn) is)
     (owner_number s start.run n (ap (λ (r : ReplayState). r.run) is) count) first second third)

@@ -1,4 +1,4 @@
--- Every owner has ended within the bound of the rounds.
+-- Every owner and the host have ended within the bound of the rounds.
 use Rattle.std.proofs.Common.{◌≡◌, ℕ, suc, ◌+◌, ◌*◌, ◌≤◌, List, [], ◌∷◌, ◌++◌, length, refl, ap, ◌∙◌, arith, Some, add-mul}
 use Rattle.std.specs.List.{sum_by, slice_get, AllByRecursion}
 use Rattle.std.proofs.lemmas.List.Sums.{sum_by-cons}
@@ -6,7 +6,8 @@ use Rattle.evac_model.specs.declared.names.PageNo.{PageNo}
 use Rattle.evac_model.specs.declared.call.Call.{Call}
 use Rattle.evac_model.specs.declared.scenario.Actor.{Actor}
 use Rattle.evac_model.specs.declared.scenario.Scenario.{Scenario}
-use Rattle.evac_model.specs.Geometry.{Sizes}
+use Rattle.std.proofs.Math.Nat.{mul-le-mul}
+use Rattle.evac_model.specs.Geometry.{Sizes, frame_count}
 use Rattle.evac_model.specs.Scenarios.{IsRunnable}
 use Rattle.evac_model.specs.ScenarioGrammar.{call_count}
 use Rattle.core_state.proofs.Lists.{member_le_sum_by}
@@ -15,11 +16,11 @@ use Rattle.core_actors.specs.Owners.{OwnerState, owner_at_start}
 use Rattle.core_actors.specs.Counts.{actions_left}
 use Rattle.core_actors.proofs.Left.{few_at_start, none_left}
 use Rattle.replay.specs.Machine.{Machine, after_turn, after_turns}
-use Rattle.replay.specs.Schedule.{actors, named_turns, drawn_turns, rounds, schedule, round_bound}
-use Rattle.replay.specs.Runs.{setting, owners_from, machine_at_start, AllEnded}
+use Rattle.replay.specs.Schedule.{actors, named_turns, drawn_turns, rounds, schedule, round_bound, round_count}
+use Rattle.replay.specs.Runs.{setting, owners_from, machine_at_start, AllEnded, HaveEnded}
 use Rattle.replay.specs.Keeping.{IsKept}
 use Rattle.replay.proofs.Turns.{after_turns-append}
-use Rattle.replay.proofs.ActionsLeft.{all_actions_left, fits_at, TurnsKeep, turns_keep, turns_never_raise}
+use Rattle.replay.proofs.ActionsLeft.{owner_actions_left, all_actions_left, host_none_left, fits_at, TurnsKeep, turns_keep, turns_never_raise}
 use Rattle.replay.proofs.Rounds.{rounds_end}
 
 -- owners at the start have at most as many actions left as their calls, times the cells of a page and 6
@@ -35,17 +36,36 @@ few_from g k (script ∷ scripts) all =
     omega arith
 
 -- owners that have no action left have ended
-ended_at : (s : Scenario) (m : Machine) → IsKept s m → all_actions_left m ≡ 0 → AllEnded m.owners
-ended_at s m kept none i a at =
+owners_ended_at : (s : Scenario) (m : Machine) → IsKept s m → owner_actions_left m.owners ≡ 0 → AllEnded m.owners
+owners_ended_at s m kept none i a at =
     let fits = fits_at s m kept i a at in
     let few = member_le_sum_by actions_left m.owners i a at in
     (none_left a fits.under_way).0 (omega arith)
 
-module _ (s : Scenario) (keep : TurnsKeep s) (start : IsKept s (machine_at_start s)) where
-  actions_at_start : all_actions_left (machine_at_start s) ≤ call_count s.owners * (s.geometry.cells + 6)
-  actions_at_start = few_from s.geometry 1 s.owners (λ i a at. (fits_at s (machine_at_start s) start i a at).calls)
+-- all have ended where no action is left
+ended_at : (s : Scenario) (m : Machine) → IsKept s m → all_actions_left m ≡ 0 → HaveEnded m
+ended_at s m kept none = record {
+  owners = owners_ended_at s m kept (omega arith);
+  host = (host_none_left m.host kept.host.under_way).0 (omega arith);
+}
 
-  ends_within : (n : ℕ) → call_count s.owners * (s.geometry.cells + 6) ≤ n → all_actions_left (after_turns (setting s) (machine_at_start s) (schedule s n)) ≡ 0
+-- the most actions that so many calls and so many commands have
+abbrev most_of_all : Sizes → (calls commands : ℕ) → ℕ
+most_of_all g calls commands = calls * (g.cells + 6) + commands * (g.managed + 1)
+
+bound_is_enough : (g : Sizes) (calls commands : ℕ) → most_of_all g calls commands ≤ round_bound g calls commands
+bound_is_enough g calls commands =
+    let same : commands ≤ commands = omega arith in
+    let more : g.managed + 1 ≤ frame_count g * (11 * g.cells + 36) + 9 * g.managed + 4 = omega arith in
+    omega (arith, mul-le-mul same more)
+
+module _ (s : Scenario) (keep : TurnsKeep s) (start : IsKept s (machine_at_start s)) where
+  actions_at_start : all_actions_left (machine_at_start s) ≤ most_of_all s.geometry (call_count s.owners) (length s.host)
+  actions_at_start =
+      let owners = few_from s.geometry 1 s.owners (λ i a at. (fits_at s (machine_at_start s) start i a at).calls) in
+      omega arith
+
+  ends_within : (n : ℕ) → most_of_all s.geometry (call_count s.owners) (length s.host) ≤ n → all_actions_left (after_turns (setting s) (machine_at_start s) (schedule s n)) ≡ 0
   ends_within n enough =
       let all : List Actor = actors (length s.owners) in
       let drawn : List Actor = drawn_turns all s.drawn in
@@ -58,7 +78,7 @@ module _ (s : Scenario) (keep : TurnsKeep s) (start : IsKept s (machine_at_start
       ∙ ap (λ (w : Machine). after_turns (setting s) w (rounds all n)) (after_turns-append (setting s) (machine_at_start s) (named_turns s.named) drawn))
       ∙ rounds_end s keep n m2 (turns_keep s keep m drawn kept) (omega (arith, few, fewer, actions_at_start, enough))
 
-  all_end_within : (n : ℕ) → call_count s.owners * (s.geometry.cells + 6) ≤ n → AllEnded (after_turns (setting s) (machine_at_start s) (schedule s n)).owners
+  all_end_within : (n : ℕ) → most_of_all s.geometry (call_count s.owners) (length s.host) ≤ n → HaveEnded (after_turns (setting s) (machine_at_start s) (schedule s n))
   all_end_within n enough =
       ended_at s (after_turns (setting s) (machine_at_start s) (schedule s n)) (turns_keep s keep (machine_at_start s) (schedule s n) start) (ends_within n enough)
 
@@ -69,5 +89,6 @@ StartsAreKept = (s : Scenario) → IsRunnable s → IsKept s (machine_at_start s
 abbrev pub TurnsAreKept : Type 0
 TurnsAreKept = (s : Scenario) (m : Machine) (actor : Actor) → IsRunnable s → IsKept s m → IsKept s (after_turn (setting s) m actor)
 
-pub runs_end_if_kept : StartsAreKept → TurnsAreKept → (s : Scenario) → IsRunnable s → AllEnded (after_turns (setting s) (machine_at_start s) (schedule s (round_bound s.geometry.cells (call_count s.owners)))).owners
-runs_end_if_kept starts turns s run = all_end_within s (λ m actor kept. turns s m actor run kept) (starts s run) (round_bound s.geometry.cells (call_count s.owners)) (omega arith)
+pub runs_end_if_kept : StartsAreKept → TurnsAreKept → (s : Scenario) → IsRunnable s → HaveEnded (after_turns (setting s) (machine_at_start s) (schedule s (round_count s)))
+runs_end_if_kept starts turns s run =
+    all_end_within s (λ m actor kept. turns s m actor run kept) (starts s run) (round_count s) (bound_is_enough s.geometry (call_count s.owners) (length s.host))

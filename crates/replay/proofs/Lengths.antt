@@ -13,8 +13,7 @@ use Rattle.evac_model.specs.declared.scenario.Drawn.{Drawn}
 use Rattle.evac_model.specs.declared.scenario.Scenario.{Scenario}
 use Rattle.evac_model.specs.declared.scenario.Turn.{Turn}
 use Rattle.evac_model.specs.Turns.{turn_count}
-use Rattle.evac_model.specs.ScenarioGrammar.{call_count}
-use Rattle.replay.specs.Schedule.{actors, named_turns, turns_from, generator_of, drawn_turns, rounds, schedule, draw_count, round_bound, turn_bound}
+use Rattle.replay.specs.Schedule.{actors, named_turns, turns_from, generator_of, drawn_turns, rounds, schedule, draw_count, round_count, turn_bound}
 
 named_length : (turns : List Turn) → length (named_turns turns) ≡ turn_count turns
 named_length [] = refl
@@ -45,5 +44,5 @@ schedule_length s n =
     let parts : length (schedule s n) ≡ length (named_turns s.named ++ drawn_turns all s.drawn) + length (rounds all n) = length-append (named_turns s.named ++ drawn_turns all s.drawn) (rounds all n) in
     omega (arith, each, parts, named_length s.named, drawn_length all s.drawn, length-append (named_turns s.named) (drawn_turns all s.drawn))
 
-pub bounds_count_turns : (s : Scenario) → length (schedule s (round_bound s.geometry.cells (call_count s.owners))) ≡ turn_bound s
-bounds_count_turns s = schedule_length s (round_bound s.geometry.cells (call_count s.owners))
+pub bounds_count_turns : (s : Scenario) → length (schedule s (round_count s)) ≡ turn_bound s
+bounds_count_turns s = schedule_length s (round_count s)

@@ -8,7 +8,7 @@ use Rattle.core_state.specs.declared.step.Step.TheVariants.{Take, Draw, Load, St
 use Rattle.core_actors.specs.declared.action.Action.{Action}
 use Rattle.core_actors.specs.declared.action.Action.TheVariants as actions
 use Rattle.core_actors.specs.declared.action.Heard.{Heard}
-use Rattle.core_actors.specs.declared.action.SpaceCall.TheVariants.{Lease, Return}
+use Rattle.core_actors.specs.declared.action.SpaceCall.TheVariants.{Lease, Return, Online}
 use Rattle.core_actors.specs.Owners.{OwnerState, owner_ended, next_action, one_made, word_in, after_step, after_action, owner_after}
 use Rattle.replay.specs.Keeping.{HaveNumbers}
 
@@ -39,6 +39,8 @@ stays_after_action a heard (actions.Step step) = stays_after_step a (word_in hea
 stays_after_action a heard (actions.Move step) = record { number = refl; numbers = λ h. h }
 stays_after_action a heard (actions.Space (Lease page kind)) = record { number = refl; numbers = λ h. h }
 stays_after_action a heard (actions.Space (Return frame)) = record { number = refl; numbers = λ h. h }
+stays_after_action a heard (actions.Space (Online block)) = stays_same a
+stays_after_action a heard (actions.Device call) = stays_same a
 stays_after_action a heard actions.Ended = stays_same a
 
 pub stays : (a : OwnerState) (heard : Heard) → Stays a (owner_after a heard)

@@ -1,5 +1,5 @@
--- In a round over all actors that begins before all owners have ended, some owner makes an action that is no
--- take that finds its page taken.
+-- In a round over all actors that begins before all of them have ended, the host makes an action, or some owner
+-- makes one that is no take that finds its page taken.
 use Rattle.std.proofs.Common.{◌≡◌, ℕ, zero, suc, ◌+◌, ◌<◌, ◌≤◌, Bool, true, false, List, [], ◌∷◌, ◌++◌, length, map, get_or, refl, sym, subst, ap, ◌∙◌, arith, inl, inr, Option, Some, None}
 use Rattle.std.specs.List.{sum_by, slice_get, range_with_len}
 use Rattle.std.proofs.lemmas.Option.{same_Some, none-some, slice_get-get_or}
@@ -22,6 +22,7 @@ use Rattle.core_state.proofs.Lists.{within, set_else, member_le_sum_by, sum_by_m
 use Rattle.core_actors.specs.declared.action.Action.{Action}
 use Rattle.core_actors.specs.declared.action.Action.TheVariants as actions
 use Rattle.core_actors.specs.declared.action.LeaseSeen.{LeaseSeen}
+use Rattle.core_actors.specs.Hosts.{host_ended}
 use Rattle.core_actors.specs.Owners.{OwnerState, owner_at_start, owner_ended, next_action, owner_after}
 use Rattle.core_actors.specs.Counts.{actions_left, IsUnderWay, FindsTaken}
 use Rattle.core_actors.specs.Fits.{since_take, IsHeldFor, HoldsAfter, HoldsFor}
@@ -32,8 +33,8 @@ use Rattle.replay.specs.Machine.{Machine, after_turn, after_turns}
 use Rattle.replay.specs.Schedule.{actors, rounds}
 use Rattle.replay.specs.Runs.{opening, setting}
 use Rattle.replay.specs.Keeping.{IsKept}
-use Rattle.replay.proofs.Turns.{after_turns-append, found_by, found_at, heard_at, TurnOf, rests, acts, turn_of, owners_after}
-use Rattle.replay.proofs.ActionsLeft.{all_actions_left, view_at, fits_at, action_lowers, turn_never_raises, TurnsKeep, turns_keep, turns_never_raise}
+use Rattle.replay.proofs.Turns.{after_turns-append, found_by, found_at, heard_at, TurnOf, rests, acts, host_acts, turn_of, owners_after, host_stays}
+use Rattle.replay.proofs.ActionsLeft.{owner_actions_left, all_actions_left, host_none_left, view_at, fits_at, action_lowers, host_lowers, turn_never_raises, TurnsKeep, turns_keep, turns_never_raise}
 
 -- ---- an owner that holds a page
 
@@ -58,6 +59,7 @@ module _ (owner cells : ℕ) (lease : LeaseSeen) (found : ℕ) (loads : List ℕ
   no_take c cs word (actions.Step (Release end)) some at = λ h. h
   no_take c cs word (actions.Move step) some at = λ h. h
   no_take c cs word (actions.Space call) some at = λ h. h
+  no_take c cs word (actions.Device call) some at = λ h. h
   no_take c cs word actions.Ended some at = λ h. h
 
   goes_on : (left : List (PageNo × Call)) (back : Option FrameNo) (word : ℕ) → IsUnderWay (state left back) → 0 < made_holding (state left back)
@@ -118,6 +120,7 @@ module _ (s : Scenario) (m : Machine) (kept : IsKept s m) where
     finds_free i a (actions.Step (Release end)) at going is = λ h. h
     finds_free i a (actions.Move step) at going is = λ h. h
     finds_free i a (actions.Space call) at going is = λ h. h
+    finds_free i a (actions.Device call) at going is = λ h. h
     finds_free i a actions.Ended at going is = λ h. h
 
     free_lowers : (i : ℕ) (a : OwnerState) → slice_get m.owners i ≡ Some a → owner_ended a ≡ false → all_actions_left (after_turn (setting s) m (Owner (suc i))) < all_actions_left m
@@ -131,10 +134,10 @@ module _ (s : Scenario) (m : Machine) (kept : IsKept s m) where
 -- ---- the turns of a round
 
 module _ (s : Scenario) (keep : TurnsKeep s) where
-  -- a turn of an owner that lowers the actions left, and turns after it
-  turn_then : (m : Machine) (x : Actor) (xs : List Actor) (i : ℕ) → IsKept s m → x ≡ Owner (suc i) → all_actions_left (after_turn (setting s) m (Owner (suc i))) < all_actions_left m
+  -- a turn of an actor that lowers the actions left, and turns after it
+  turn_then : (m : Machine) (x actor : Actor) (xs : List Actor) → IsKept s m → x ≡ actor → all_actions_left (after_turn (setting s) m actor) < all_actions_left m
       → all_actions_left (after_turns (setting s) m (x ∷ xs)) < all_actions_left m
-  turn_then m x xs i kept is lower =
+  turn_then m x actor xs kept is lower =
       let same = ap (λ (y : Actor). all_actions_left (after_turn (setting s) m y)) is in
       let rest = turns_never_raise s keep (after_turn (setting s) m x) xs (keep m x kept) in
       omega arith
@@ -143,7 +146,7 @@ module _ (s : Scenario) (keep : TurnsKeep s) where
   holder_round : (m : Machine) (xs : List Actor) (i j : ℕ) (a : OwnerState) → IsKept s m → slice_get m.owners i ≡ Some a → 0 < made_holding a → slice_get xs j ≡ Some (Owner (suc i))
       → all_actions_left (after_turns (setting s) m xs) < all_actions_left m
   holder_round m [] i j a kept at some there = absurd (none-some (Owner (suc i)) there)
-  holder_round m (x ∷ xs) i zero a kept at some there = turn_then m x xs i kept (same_Some x (Owner (suc i)) there) (holder_lowers s m kept i a at some)
+  holder_round m (x ∷ xs) i zero a kept at some there = turn_then m x (Owner (suc i)) xs kept (same_Some x (Owner (suc i)) there) (holder_lowers s m kept i a at some)
   holder_round m (x ∷ xs) i (suc j) a kept at some there =
       by_kind (turn_of (setting s) m x) (λ still. holder_round (after_turn (setting s) m x) xs i j a (keep m x kept) still some there) where
         by_kind : TurnOf (setting s) m x → (slice_get (after_turn (setting s) m x).owners i ≡ Some a → all_actions_left (after_turns (setting s) m (x ∷ xs)) < all_actions_left (after_turn (setting s) m x))
@@ -153,7 +156,7 @@ module _ (s : Scenario) (keep : TurnsKeep s) where
             let same = ap all_actions_left e in
             omega arith
         by_kind (acts k b is here going) later = dite (ℕ_discrete k i)
-            (λ same. turn_then m x xs i kept (is ∙ ap (λ (n : ℕ). Owner (suc n)) same) (holder_lowers s m kept i a at some))
+            (λ same. turn_then m x (Owner (suc i)) xs kept (is ∙ ap (λ (n : ℕ). Owner (suc n)) same) (holder_lowers s m kept i a at some))
             (λ apart.
             let still : slice_get (after_turn (setting s) m x).owners i ≡ Some a =
             ap (λ (y : Actor). slice_get (after_turn (setting s) m y).owners i) is
@@ -163,18 +166,38 @@ module _ (s : Scenario) (keep : TurnsKeep s) where
             let lower = later still in
             let less = turn_never_raises s m kept x in
             omega arith)
+        by_kind (host_acts is going) later = turn_then m x Host xs kept is (host_lowers s m kept going)
 
   -- turns, among them one of an owner that hasn't ended, where nobody holds a page
   free_round : (m : Machine) (xs : List Actor) (i j : ℕ) (a : OwnerState) → IsKept s m → ((k : ℕ) (b : OwnerState) → slice_get m.owners k ≡ Some b → made_holding b ≡ 0)
       → slice_get m.owners i ≡ Some a → owner_ended a ≡ false → slice_get xs j ≡ Some (Owner (suc i)) → all_actions_left (after_turns (setting s) m xs) < all_actions_left m
   free_round m [] i j a kept none at going there = absurd (none-some (Owner (suc i)) there)
-  free_round m (x ∷ xs) i zero a kept none at going there = turn_then m x xs i kept (same_Some x (Owner (suc i)) there) (free_lowers s m kept none i a at going)
+  free_round m (x ∷ xs) i zero a kept none at going there = turn_then m x (Owner (suc i)) xs kept (same_Some x (Owner (suc i)) there) (free_lowers s m kept none i a at going)
   free_round m (x ∷ xs) i (suc j) a kept none at going there = by_kind (turn_of (setting s) m x) (free_round m xs i j a kept none at going there) where
     by_kind : TurnOf (setting s) m x → all_actions_left (after_turns (setting s) m xs) < all_actions_left m → all_actions_left (after_turns (setting s) m (x ∷ xs)) < all_actions_left m
     by_kind (rests e) later = subst (λ (w : Machine). all_actions_left (after_turns (setting s) w xs) < all_actions_left m) (sym e) later
-    by_kind (acts k b is here goes) later = turn_then m x xs k kept is (free_lowers s m kept none k b here goes)
+    by_kind (acts k b is here goes) later = turn_then m x (Owner (suc k)) xs kept is (free_lowers s m kept none k b here goes)
+    by_kind (host_acts is goes) later = turn_then m x Host xs kept is (host_lowers s m kept goes)
 
--- each owner has its turn in a round
+  -- turns, among them one of the host, which hasn't ended
+  host_round : (m : Machine) (xs : List Actor) (j : ℕ) → IsKept s m → host_ended m.host ≡ false → slice_get xs j ≡ Some Host → all_actions_left (after_turns (setting s) m xs) < all_actions_left m
+  host_round m [] j kept going there = absurd (none-some Host there)
+  host_round m (x ∷ xs) zero kept going there = turn_then m x Host xs kept (same_Some x Host there) (host_lowers s m kept going)
+  host_round m (x ∷ xs) (suc j) kept going there =
+      by_kind (turn_of (setting s) m x) (λ still. host_round (after_turn (setting s) m x) xs j (keep m x kept) (ap host_ended still ∙ going) there) where
+        by_kind : TurnOf (setting s) m x → ((after_turn (setting s) m x).host ≡ m.host → all_actions_left (after_turns (setting s) m (x ∷ xs)) < all_actions_left (after_turn (setting s) m x))
+            → all_actions_left (after_turns (setting s) m (x ∷ xs)) < all_actions_left m
+        by_kind (rests e) later =
+            let lower = later (ap (λ (w : Machine). w.host) e) in
+            let same = ap all_actions_left e in
+            omega arith
+        by_kind (acts k b is here goes) later =
+            let lower = later (ap (λ (y : Actor). (after_turn (setting s) m y).host) is ∙ host_stays (setting s) m (suc k)) in
+            let less = turn_never_raises s m kept x in
+            omega arith
+        by_kind (host_acts is goes) later = turn_then m x Host xs kept is (host_lowers s m kept goes)
+
+-- each owner and the host have their turns in a round
 owners_at : (first n i : ℕ) (rest : List Actor) → i < n → slice_get (map (λ k. Owner k) (range_with_len first n) ++ rest) i ≡ Some (Owner (first + i))
 owners_at first zero i rest lt = absurd (omega arith)
 owners_at first (suc n) zero rest lt = let e : first ≡ first + 0 = omega arith in ap (λ (k : ℕ). Some (Owner k)) e
@@ -185,6 +208,10 @@ owners_at first (suc n) (suc i) rest lt =
 actors_at : (n i : ℕ) → i < n → slice_get (actors n) i ≡ Some (Owner (suc i))
 actors_at n i lt = let e : 1 + i ≡ suc i = omega arith in owners_at 1 n i (Host ∷ Scanner ∷ []) lt ∙ ap (λ (k : ℕ). Some (Owner k)) e
 
+host_behind : (first n : ℕ) → slice_get (map (λ k. Owner k) (range_with_len first n) ++ Host ∷ Scanner ∷ []) n ≡ Some Host
+host_behind first zero = refl
+host_behind first (suc n) = host_behind (first + 1) n
+
 module _ (s : Scenario) (keep : TurnsKeep s) where
   abbrev all_actors : List Actor
   all_actors = actors (length s.owners)
@@ -192,8 +219,11 @@ module _ (s : Scenario) (keep : TurnsKeep s) where
   there_at : (m : Machine) (i : ℕ) (a : OwnerState) → IsKept s m → slice_get m.owners i ≡ Some a → slice_get all_actors i ≡ Some (Owner (suc i))
   there_at m i a kept at = actors_at (length s.owners) i (omega (arith, within m.owners i a at, kept.seats.owners))
 
-  round_lowers : (m : Machine) → IsKept s m → 0 < all_actions_left m → all_actions_left (after_turns (setting s) m all_actors) < all_actions_left m
-  round_lowers m kept some = dite (ℕ_discrete (sum_by (λ a. made_holding a) m.owners) 0)
+  host_there : slice_get all_actors (length s.owners) ≡ Some Host
+  host_there = host_behind 1 (length s.owners)
+
+  owners_round : (m : Machine) → IsKept s m → 0 < owner_actions_left m.owners → all_actions_left (after_turns (setting s) m all_actors) < all_actions_left m
+  owners_round m kept some = dite (ℕ_discrete (sum_by (λ a. made_holding a) m.owners) 0)
       (λ none.
       let p = sum_by_member actions_left m.owners some in
       let no_holder : (k : ℕ) (b : OwnerState) → slice_get m.owners k ≡ Some b → made_holding b ≡ 0 = λ k b at. (let few = member_le_sum_by (λ (x : OwnerState). made_holding x) m.owners k b at in omega arith) in
@@ -201,6 +231,12 @@ module _ (s : Scenario) (keep : TurnsKeep s) where
       (λ more.
       let p = sum_by_member (λ (x : OwnerState). made_holding x) m.owners (omega arith) in
       holder_round s keep m all_actors p.0 p.0 p.1 kept p.2 p.3 (there_at m p.0 p.1 kept p.2))
+
+  round_lowers : (m : Machine) → IsKept s m → 0 < all_actions_left m → all_actions_left (after_turns (setting s) m all_actors) < all_actions_left m
+  round_lowers m kept some = by_host (host_ended m.host) refl where
+    by_host : (b : Bool) → host_ended m.host ≡ b → all_actions_left (after_turns (setting s) m all_actors) < all_actions_left m
+    by_host true ended = owners_round m kept (let none = (host_none_left m.host kept.host.under_way).1 ended in omega arith)
+    by_host false going = host_round s keep m all_actors (length s.owners) kept going host_there
 
   -- no action is left after as many rounds as there were actions left
   pub rounds_end : (n : ℕ) (m : Machine) → IsKept s m → all_actions_left m ≤ n → all_actions_left (after_turns (setting s) m (rounds all_actors n)) ≡ 0

@@ -1,14 +1,11 @@
-use Rattle.std.proofs.Common.{◌≡◌, ◌*◌, ◌+◌, ◌≤◌, ◌^◌, ◌∙◌, List, length, ap, sym, subst, ℕ, arith, Option}
-use Rattle.evac_model.specs.ScenarioGrammar.{call_count}
+use Rattle.std.proofs.Common.{◌≡◌, ◌*◌, ◌+◌, ◌≤◌, ◌^◌, ◌∙◌, List, length, ap, sym, ℕ, arith, Option}
 use Rattle.evac_model.specs.Turns.{turn_count}
 use Rattle.evac_model.specs.declared.scenario.Drawn.{Drawn}
 use Rattle.evac_model.specs.declared.scenario.Scenario.{Scenario}
 use Rattle.evac_model.specs.declared.scenario.Turn.{Turn}
 use Rattle.replay.specs.ReplayInside.{ReplayState, replay_of}
-use Rattle.replay.specs.Runs.{machine_at_start, setting, AllEnded}
-use Rattle.replay.specs.Machine.{after_turns}
-use Rattle.replay.specs.Schedule.{draw_count, round_bound, turn_bound, schedule}
-use Rattle.replay.proofs.Done.{owner_number, few_draws, few_turns}
+use Rattle.replay.specs.Schedule.{draw_count, round_bound, round_count, turn_bound}
+use Rattle.replay.proofs.Done.{most_rounds, owner_number, few_draws, few_turns}
 use Rattle.replay.proofs.Ends.{runs_end_if_kept}
 use Rattle.replay.proofs.Kept.{starts_are_kept, turns_are_kept}
 use Rattle.replay.proofs.Lengths.{bounds_count_turns}
@@ -20,7 +17,7 @@ record Numbers (c : goal.After-round_bound) (s : Scenario) : Type 0 where
   turns : c.count_turns.result ≡ turn_count s.named
   drawn : c.match-self.drawn ≡ draw_count s.drawn
   owners : c.from-actors.result ≡ length s.owners
-  rounds : c.round_bound.result ≡ round_bound s.geometry.cells (call_count s.owners)
+  rounds : c.round_bound.result ≡ round_count s
 
 numbers : (c : goal.After-round_bound) (s : Scenario) → c.args.self.now ≡ replay_of s → Numbers c s
 numbers c s e = let is = c.self.view_is ∙ e in record {
@@ -32,7 +29,7 @@ numbers c s e = let is = c.self.view_is ∙ e in record {
       ]
       ∙ ap (λ (r : ReplayState). draw_count r.drawn) is;
   owners = owner_number s c.self.inside.running c.from-actors.result (ap (λ (r : ReplayState). r.run) is) (c.from-actors.ensures ∙ c.owner_count.ensures);
-  rounds = c.round_bound.ensures ∙ ap (λ (r : ReplayState). round_bound r.geometry.cells r.calls) e;
+  rounds = c.round_bound.ensures ∙ ap (λ (r : ReplayState). round_bound r.geometry r.calls (length r.commands)) e;
 }
 
 sum_is : (c : goal.After-round_bound) (s : Scenario) → c.args.self.now ≡ replay_of s → c.count_turns.result + c.match-self.drawn + (c.from-actors.result + 2) * c.round_bound.result ≡ turn_bound s
@@ -43,7 +40,7 @@ sum_is c s e =
     ∙ ap (λ (k : ℕ). turn_count s.named + draw_count s.drawn + (k + 2) * c.round_bound.result) n.owners
     ∙ ap (λ (k : ℕ). turn_count s.named + draw_count s.drawn + (length s.owners + 2) * k) n.rounds
 
-few : (c : goal.After-round_bound) → (c.from-actors.result + 2) * c.round_bound.result ≤ 18 * (1 + 1048576 * 518)
+few : (c : goal.After-round_bound) → (c.from-actors.result + 2) * c.round_bound.result ≤ 18 * most_rounds
 few c =
     let s = c.self.invariant.scenario in
     let n = numbers c s (sym c.self.view_is ∙ c.self.invariant.is) in
@@ -64,8 +61,4 @@ pub returns-clause-bound : goal.returns-clause-bound
 returns-clause-bound c s e = sum_is c s e
 
 pub returns-clause-ended : goal.returns-clause-ended
-returns-clause-ended c s runnable e =
-    let calls = ap (λ (r : ReplayState). r.calls) e in (
-      ap (λ (k : ℕ). length (schedule s (round_bound s.geometry.cells k))) calls ∙ bounds_count_turns s ∙ sym (sum_is c s e),
-      subst (λ (k : ℕ). AllEnded (after_turns (setting s) (machine_at_start s) (schedule s (round_bound s.geometry.cells k))).owners) (sym calls) (runs_end_if_kept starts_are_kept turns_are_kept s runnable),
-    )
+returns-clause-ended c s runnable e = (bounds_count_turns s ∙ sym (sum_is c s e), runs_end_if_kept starts_are_kept turns_are_kept s runnable)
