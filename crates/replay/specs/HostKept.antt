@@ -1,7 +1,6 @@
 -- How the host, its lines and the memory device's journal go with the commands.
 use Rattle.std.specs.Prelude.{◌≡◌, ℕ, suc, List, [], ◌∷◌, ◌++◌, Option, None, Some, is_some, if◌then◌else◌}
 use Rattle.std.specs.List.{AllByRecursion}
-use Rattle.evac_model.specs.declared.host.HostCommand.{HostCommand}
 use Rattle.evac_model.specs.declared.host.HostLine.{HostLine}
 use Rattle.evac_model.specs.declared.host.HostResult.{HostResult}
 use Rattle.evac_model.specs.declared.scenario.Scenario.{Scenario}
