@@ -108,8 +108,10 @@ pub fn replay_main<S: Source, K: Sink>(
     // The calls reported are one legal history of pages that never move, each script call once,
     // in its caller's order, and the pages reported are the state after it; the frame space's
     // journal goes with that history, the frames out at the end are those of the mapped pages, and
-    // none lies in a block that isn't plugged; it is the report of the run of the schedule; of the
-    // scenario that the source's bytes are a text of.
+    // none lies in a block that isn't plugged; each command of the host has what the device gives by
+    // the actions before, the device's journal is that of the commands, and the plugged blocks are
+    // what it leaves; it is the report of the run of the schedule; of the scenario that the source's
+    // bytes are a text of.
     ensures theorem { IfSome result.report (λ report. (s : Scenario) × IsRunnable s × IsReportOf s report × IsReportOfRun s report
         × IfSome (S.left source.old) (λ bytes. IsAccepted bytes s)) }
     ensures reported { IsSome result.report ↔ ((result.status ≡ 0) ⊎ (result.status ≡ 5)) }
