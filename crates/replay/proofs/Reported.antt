@@ -1,5 +1,5 @@
--- What a machine leaves whose owners have all ended: a legal history, each script call once, the pages after it,
--- and their frames.
+-- What a machine leaves whose owners and host have ended: a legal history, each script call once, the pages after
+-- it, and their frames; the lines of the host's commands, and what the device and the driver did.
 use Rattle.std.proofs.Common.{◌≡◌, ◌≢◌, ℕ, cond, Bool, true, eq-eqb, ne_eqb, zero, suc, ◌+◌, ◌<◌, ◌≤◌, List, [], ◌++◌, length, map, get_or, sym, refl, ap, ◌∙◌, subst, arith, Option, Some, None}
 use Rattle.std.specs.Option.{option_map}
 use Rattle.std.specs.List.{slice_get, AllByRecursion}
