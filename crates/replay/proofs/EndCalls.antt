@@ -1,5 +1,5 @@
 -- How the history and the space's journal go together that a machine leaves whose owners have all ended.
-use Rattle.std.proofs.Common.{◌≡◌, ℕ, zero, suc, ◌<◌, nat_lt, List, [], ◌++◌, length, take, drop, filter, Contains, append-nil, sym, refl, ap, ◌∙◌, subst, inl, inr, arith, Option, Some, None}
+use Rattle.std.proofs.Common.{◌≡◌, ℕ, suc, ◌<◌, nat_lt, List, [], ◌++◌, length, take, drop, filter, Contains, append-nil, sym, ap, ◌∙◌, subst, arith, Option, Some, None}
 use Rattle.std.proofs.lemmas.Option.{slice_get-get_or, slice_get_within, get_or_from_slice_get}
 use mathlib.Core.Logic.{dite}
 use native.Mathlib.Decide.{dec_le}
@@ -57,11 +57,10 @@ module _ (s : Scenario) (m : Machine) (k : IsKept s m) (ended : AllEnded m.owner
       subst (λ (es : List Entry). AreMadeBy es (actions_of (suc i) m.journal)) (sym (owners_entries s m k ended h history i v.0 low v.1))
       (all_made (suc i) own.owner own.left own.back v.0.entries (actions_of (suc i) m.journal) calls.made)
 
-  made : (who : ℕ) → AreMadeBy (entries_of who h) (actions_of who m.journal)
-  made zero = made_by_none zero (no_entries s m k ended h history zero (λ place lt q. omega arith)) (k.calls.others zero (inl refl))
-  made (suc i) = dite (dec_le (suc i) (length s.owners))
+  made : (owner : ℕ) → AreMadeBy (entries_of (suc owner) h) (actions_of (suc owner) m.journal)
+  made i = dite (dec_le (suc i) (length s.owners))
       (λ le. made_by_owner i (omega arith))
-      (λ gt. made_by_none (suc i) (no_entries s m k ended h history (suc i) (λ place lt q. omega arith)) (k.calls.others (suc i) (inr (let n = k.seats.owners in omega arith))))
+      (λ gt. made_by_none (suc i) (no_entries s m k ended h history (suc i) (λ place lt q. omega arith)) (k.calls.others (suc i) (let n = k.seats.owners in omega arith)))
 
   -- ---- refusals
 

@@ -1,6 +1,6 @@
--- Where the frames are once all owners have ended: those that are out are the mapped pages', and the offline blocks are
--- those that aren't plugged.
-use Rattle.std.proofs.Common.{◌≡◌, ℕ, zero, suc, ◌+◌, ◌-◌, ◌<◌, ◌≤◌, Bool, true, false, ◌==◌, ◌&&◌, ◌||◌, not, cond, nat_lt, List, [], ◌∷◌, ◌++◌, length, length-take, map, drop, is_some, refl, sym, ap, ◌∙◌, subst, inl, inr, arith, Option, Some, None, IsSome}
+-- Where the frames are once all owners and the host have ended: those that are out are the mapped pages', and the
+-- offline blocks are those that aren't plugged.
+use Rattle.std.proofs.Common.{◌≡◌, ℕ, zero, suc, ◌+◌, ◌<◌, ◌≤◌, Bool, true, false, ◌&&◌, ◌||◌, not, nat_lt, List, [], ◌∷◌, length, length-take, map, drop, is_some, refl, sym, ap, ◌∙◌, subst, arith, Option, Some, None, IsSome}
 use Rattle.std.specs.Option.{option_map}
 use Rattle.std.proofs.lemmas.Bool.{false≢true}
 use Rattle.std.proofs.lemmas.Bool.Decides.{nat_tests}
@@ -8,21 +8,21 @@ use Rattle.std.proofs.lemmas.List.{get_or_past}
 use Rattle.std.proofs.lemmas.Option.{none-some, same_Some, slice_get-get_or}
 use mathlib.Core.Logic.{dite}
 use native.Mathlib.Decide.{ℕ_discrete, dec_lt}
-use Rattle.evac_model.specs.declared.names.BlockNo.{BlockNo}
 use Rattle.evac_model.specs.declared.names.FrameNo.{FrameNo}
 use Rattle.evac_model.specs.declared.names.Kind.{Kind}
 use Rattle.evac_model.specs.declared.names.PageNo.{PageNo}
 use Rattle.evac_model.specs.declared.call.Call.{Call}
 use Rattle.evac_model.specs.declared.scenario.Scenario.{Scenario}
-use Rattle.evac_model.specs.declared.space.SpaceAction.{SpaceAction}
-use Rattle.evac_model.specs.declared.space.SpaceAction.TheVariants.{Lease, MoveLease, Return, Isolate, Undo, Offline, Online}
 use Rattle.evac_model.specs.Geometry.{Sizes, frame_count}
-use Rattle.evac_model.specs.Numbers.{is_in, is_between}
+use Rattle.evac_model.specs.DeviceAnswer.{unplugged_blocks}
+use Rattle.evac_model.specs.HostCommands.{blocks_of}
+use Rattle.evac_model.specs.Numbers.{is_in}
 use Rattle.evac_model.specs.Page.{PlainPage, Page}
-use Rattle.evac_model.specs.Pairing.{caller_of, actions_of, AreOutForPages, AreUnplugged}
+use Rattle.evac_model.specs.Pairing.{AreOutForPages, AreUnplugged}
 use Rattle.evac_model.specs.Scenarios.{IsRunnable}
 use Rattle.evac_model.specs.ScenarioGrammar.{online_of}
-use Rattle.evac_model.specs.SpaceJournal.{Out, SpaceState, Leased, out_for, lease_of, after_lease, after_action, space_after, space_at_start}
+use Rattle.evac_model.specs.SpaceJournal.{Out, out_for, is_frame_in}
+use Rattle.evac_model.proofs.Numbers.{is_in-numbers_where, is_in-numbers_where_past}
 use Rattle.evac_model.specs.State.{PlainState, page_at}
 use Rattle.evac_words.specs.Word.{mapped_bit, frame_of, bit_of}
 use Rattle.core_state.specs.declared.hand.HandFrame.{HandFrame}
@@ -37,11 +37,13 @@ use Rattle.core_state.proofs.Lists.{sum_by_member, sum_by_none, member_le_sum_by
 use Rattle.core_actors.specs.Fits.{hand_in, hand_from, frame_in_hand, IsHandFor, HasInHand}
 use Rattle.core_actors.specs.Owners.{OwnerState, owner_at_start, owner_ended}
 use Rattle.space.specs.SpaceInside.{IsSpace}
-use Rattle.space.proofs.Members.{is_in-range_with_len}
-use Rattle.replay.specs.FramesOut.{HasFrame, space_now}
+use Rattle.space.proofs.BlockFrames.{frame_in_witness, frame_in_from}
+use Rattle.replay.specs.FramesOut.{HasFrame, space_now, unplugged_now}
+use Rattle.replay.specs.HostKept.{device_now}
 use Rattle.replay.specs.Keeping.{IsKept}
-use Rattle.replay.specs.Machine.{Machine, free_seat, owner_of}
-use Rattle.replay.specs.Runs.{opening, AllEnded, first_blocks}
+use Rattle.replay.specs.Machine.{Machine, free_seat, unplugged_seat, owner_of, device_at}
+use Rattle.replay.specs.Runs.{opening, HaveEnded, block_list}
+use Rattle.replay.proofs.EndHost.{blocks_at_end}
 use Rattle.replay.proofs.EndedOwners.{left_at_end, back_at_end}
 use Rattle.replay.proofs.SpaceNow.{space_is}
 
@@ -68,7 +70,7 @@ kind_shown : (w : ℕ) (m : Page) → mapped_bit w ≡ 1 → Flagged w m → opt
 kind_shown w None mapped flags = absurd (unmapped_flags w flags mapped)
 kind_shown w (Some p) mapped flags = ap (λ (k : Kind). Some k) (sym flags.1)
 
-module _ (s : Scenario) (m : Machine) (r : IsRunnable s) (kept : IsKept s m) (ended : AllEnded m.owners) where
+module _ (s : Scenario) (m : Machine) (r : IsRunnable s) (kept : IsKept s m) (ended : HaveEnded m) where
   abbrev word_of : ℕ → ℕ
   word_of page = entry_word_of m.snapshot.words page
 
@@ -92,25 +94,35 @@ module _ (s : Scenario) (m : Machine) (r : IsRunnable s) (kept : IsKept s m) (en
     not_free : ¬ HasFrame m (free_seat (length m.owners)) frame
     not_free has = none-some x (sym ((kept.frames.free frame there).0 has).0 ∙ out)
 
-    not_unplugged : ¬ HasFrame m (free_seat (length m.owners) + 1) frame
-    not_unplugged has = none-some x (sym (space_here.emptied frame ((kept.frames.unplugged frame there).0 has)) ∙ out)
+    -- a frame of a block that isn't plugged is not out
+    not_unplugged : ¬ HasFrame m (unplugged_seat (length m.owners)) frame
+    not_unplugged has =
+        let w = frame_in_witness s.geometry (unplugged_now s m) frame ((kept.frames.unplugged frame there).0 has) in
+        let off : is_in w.0 (space_now s m).offline ≡ true = kept.frames.offline w.0 ∙ ap (λ (t : Bool). t || is_in w.0 (blocks_of m.host.online)) w.1 in
+        none-some x (sym (space_here.emptied frame (frame_in_from s.geometry (space_now s m).offline w.0 frame off w.2)) ∙ out)
+
+    -- no block is to be put online
+    not_drivers : ¬ HasFrame m 0 frame
+    not_drivers has =
+        let none : is_frame_in s.geometry (blocks_of m.host.online) frame ≡ false = ap (λ (blocks : List ℕ). is_frame_in s.geometry blocks frame) (blocks_at_end m.host kept.host.under_way ended.host) in
+        false≢true (sym none ∙ (kept.frames.driver frame there).0 has)
 
     in_owners_hand : (i : ℕ) → i < length m.owners → hand_frame (view_of m.snapshot.views (suc i)) frame ≡ None
     in_owners_hand i lt =
         let at = slice_get-get_or m.owners i (owner_at_start 0 0 []) lt in
         let has = slice_get-get_or m.snapshot.views (suc i) spent (let n = kept.seats.owners in let k = kept.seats.seats in omega arith) in
         let fits = kept.seats.fits i (owner_of m.owners (suc i)) (view_of m.snapshot.views (suc i)) at has in
-        ended_hand (owner_of m.owners (suc i)) (view_of m.snapshot.views (suc i)) frame (ended i (owner_of m.owners (suc i)) at) fits.1.hand
+        ended_hand (owner_of m.owners (suc i)) (view_of m.snapshot.views (suc i)) frame (ended.owners i (owner_of m.owners (suc i)) at) fits.1.hand
 
     in_hand_at : (seat : ℕ) → seat < length m.owners + 4 → hand_frame (view_of m.snapshot.views seat) frame ≡ None
-    in_hand_at zero lt = kept.frames.empty 0 frame (inl refl)
+    in_hand_at zero lt = empty_place _ not_drivers
     in_hand_at (suc i) lt = dite (dec_lt i (length m.owners))
         (λ owner. in_owners_hand i owner)
         (λ past. dite (ℕ_discrete i (length m.owners))
-        (λ e. kept.frames.empty (suc i) frame (inr (omega arith)))
+        (λ e. ap (λ (k : ℕ). hand_frame (view_of m.snapshot.views k) frame) (let same : suc i ≡ length m.owners + 1 = omega arith in same) ∙ kept.frames.scanner frame)
         (λ ne. dite (ℕ_discrete i (length m.owners + 1))
         (λ e. ap (λ (k : ℕ). hand_frame (view_of m.snapshot.views k) frame) (let same : suc i ≡ free_seat (length m.owners) = omega arith in same) ∙ empty_place _ not_free)
-        (λ other. ap (λ (k : ℕ). hand_frame (view_of m.snapshot.views k) frame) (let same : suc i ≡ free_seat (length m.owners) + 1 = omega arith in same) ∙ empty_place _ not_unplugged)))
+        (λ other. ap (λ (k : ℕ). hand_frame (view_of m.snapshot.views k) frame) (let same : suc i ≡ unplugged_seat (length m.owners) = omega arith in same) ∙ empty_place _ not_unplugged)))
 
     in_no_hand : times_in_hands frame m.snapshot.views ≡ 0
     in_no_hand = sum_by_none (λ v. times_in_hand frame v) m.snapshot.views (λ seat v has.
@@ -162,7 +174,7 @@ module _ (s : Scenario) (m : Machine) (r : IsRunnable s) (kept : IsKept s m) (en
           sym by.frame_is ∙ ap (λ (k : ℕ). frame_of (word_of k)) page ∙ too.frame_is;
     }
 
-pub frames_at_end : (s : Scenario) (m : Machine) → IsRunnable s → IsKept s m → AllEnded m.owners → (pages : PlainState)
+pub frames_at_end : (s : Scenario) (m : Machine) → IsRunnable s → IsKept s m → HaveEnded m → (pages : PlainState)
     → ((page : ℕ) → page < s.geometry.pages → FreeShows (opening s) m.snapshot.words (entry_word_of m.snapshot.words page) (page_at pages page))
     → ((page : ℕ) (p : PlainPage) → page_at pages page ≡ Some p → page < s.geometry.pages)
     → AreOutForPages (space_now s m) pages
@@ -170,59 +182,30 @@ frames_at_end s m r kept ended pages shown low = out_at_end s m r kept ended pag
 
 -- ---- the offline blocks
 
-module _ (s : Sizes) (online : Kind) where
-  leased_offline : (st : SpaceState) (l : Option Leased) (page : ℕ) (kind : Kind) → (after_lease st l page kind).offline ≡ st.offline
-  leased_offline st None page kind = refl
-  leased_offline st (Some l) page kind = refl
+numbers_back : (blocks : List ℕ) → map (λ b. b.0) (block_list blocks) ≡ blocks
+numbers_back [] = refl
+numbers_back (b ∷ blocks) = ap (λ (l : List ℕ). b ∷ l) (numbers_back blocks)
 
-  -- an action that isn't the driver's keeps them
-  kept_offline : (st : SpaceState) (a : SpaceAction) → (caller_of a == 0) ≡ false → (after_action s online st a).offline ≡ st.offline
-  kept_offline st (Lease who frame page kind) other = leased_offline st (lease_of s online st who kind) page.0 kind
-  kept_offline st (MoveLease frame page) other = absurd (false≢true (sym other))
-  kept_offline st (Return who frame) other = refl
-  kept_offline st (Isolate block) other = absurd (false≢true (sym other))
-  kept_offline st (Undo block) other = absurd (false≢true (sym other))
-  kept_offline st (Offline block) other = absurd (false≢true (sym other))
-  kept_offline st (Online block) other = absurd (false≢true (sym other))
+or_none : (t : Bool) → (t || false) ≡ t
+or_none true = refl
+or_none false = refl
 
-  -- none of the first action is the driver's, and none of the others
-  others_first : (b : Bool) (a : SpaceAction) (rest : List SpaceAction) → cond b (a ∷ rest) rest ≡ [] → (b ≡ false) × (rest ≡ [])
-  others_first true a rest none = absurd (let n = ap (λ (l : List SpaceAction). length l) none in omega arith)
-  others_first false a rest none = (refl, none)
+-- the unplugged blocks are the managed ones that aren't plugged
+among_unplugged : (g : Sizes) (plugged : List ℕ) (block : ℕ) → is_in block (unplugged_blocks g plugged) ≡ (nat_lt block g.managed && not (is_in block plugged))
+among_unplugged g plugged block = dite (dec_lt block g.managed)
+    (λ lt. is_in-numbers_where (λ b. not (is_in b plugged)) g.managed block lt ∙ ap (λ (t : Bool). t && not (is_in block plugged)) (sym (below block lt)))
+    (λ ge. is_in-numbers_where_past (λ b. not (is_in b plugged)) g.managed block (omega arith) ∙ ap (λ (t : Bool). t && not (is_in block plugged)) (sym (past block (omega arith))))
+  where
+    below : (b : ℕ) → b < g.managed → nat_lt b g.managed ≡ true
+    below b lt = grind (arith, nat_tests)
 
-  same_offline : (st : SpaceState) (journal : List SpaceAction) → actions_of 0 journal ≡ [] → (space_after s online st journal).offline ≡ st.offline
-  same_offline st [] none = refl
-  same_offline st (a ∷ journal) none =
-      let others = others_first (caller_of a == 0) a (actions_of 0 journal) none in
-      same_offline (after_action s online st a) journal others.1 ∙ kept_offline st a others.0
+    past : (b : ℕ) → g.managed ≤ b → nat_lt b g.managed ≡ false
+    past b ge = grind (arith, nat_tests)
 
--- the first blocks are those with numbers below theirs
-is_in-push : (block : ℕ) (l : List BlockNo) (b : BlockNo) → is_in block (map (λ x. x.0) (l ++ b ∷ [])) ≡ (is_in block (map (λ x. x.0) l) || block == b.0)
-is_in-push block [] b = or_comm (block == b.0) where
-  or_comm : (t : Bool) → (t || false) ≡ (false || t)
-  or_comm true = refl
-  or_comm false = refl
-is_in-push block (x ∷ l) b = ap (λ (t : Bool). block == x.0 || t) (is_in-push block l b) ∙ or_assoc (block == x.0) (is_in block (map (λ x. x.0) l)) (block == b.0) where
-  or_assoc : (t u v : Bool) → (t || (u || v)) ≡ ((t || u) || v)
-  or_assoc true u v = refl
-  or_assoc false u v = refl
-
-below_next : (block n : ℕ) → (nat_lt block n || block == n) ≡ nat_lt block (suc n)
-below_next block n = grind (arith, nat_tests)
-
-below_none : (block : ℕ) → nat_lt block 0 ≡ false
-below_none block = grind (arith, nat_tests)
-
-is_in-first_blocks : (block n : ℕ) → is_in block (map (λ x. x.0) (first_blocks n)) ≡ nat_lt block n
-is_in-first_blocks block zero = sym (below_none block)
-is_in-first_blocks block (suc n) = is_in-push block (first_blocks n) (record { 0 = n }) ∙ ap (λ (t : Bool). t || block == n) (is_in-first_blocks block n) ∙ below_next block n
-
-between_plugged : (plugged managed block : ℕ) → plugged ≤ managed → is_between plugged (plugged + (managed - plugged)) block ≡ (nat_lt block managed && not (nat_lt block plugged))
-between_plugged plugged managed block few = grind (arith, nat_tests)
-
-pub unplugged_at_end : (s : Scenario) (m : Machine) → IsRunnable s → IsKept s m → AreUnplugged s.geometry (space_now s m) (first_blocks s.geometry.plugged)
-unplugged_at_end s m r kept = λ block.
-    ap (λ (l : List ℕ). is_in block l) (same_offline s.geometry (online_of s) (space_at_start s.geometry s.start) m.journal (kept.calls.others 0 (inl refl)))
-    ∙ is_in-range_with_len block s.geometry.plugged (s.geometry.managed - s.geometry.plugged)
-    ∙ between_plugged s.geometry.plugged s.geometry.managed block r.limits.plugged
-    ∙ sym (ap (λ (t : Bool). nat_lt block s.geometry.managed && not t) (is_in-first_blocks block s.geometry.plugged))
+pub unplugged_at_end : (s : Scenario) (m : Machine) → IsKept s m → HaveEnded m → AreUnplugged s.geometry (space_now s m) (block_list (device_at s.geometry m.device).plugged)
+unplugged_at_end s m kept ended = λ block.
+    kept.frames.offline block
+    ∙ (ap (λ (blocks : List ℕ). is_in block (unplugged_now s m) || is_in block blocks) (blocks_at_end m.host kept.host.under_way ended.host)
+    ∙ (or_none (is_in block (unplugged_now s m))
+    ∙ (among_unplugged s.geometry (device_now s m).plugged block
+    ∙ sym (ap (λ (l : List ℕ). nat_lt block s.geometry.managed && not (is_in block l)) (numbers_back (device_now s m).plugged)))))

@@ -54,5 +54,6 @@ pub mod Lengths
 pub mod Callers
 pub mod Reported
 pub mod EndCalls
+pub mod EndHost
 pub mod EndFrames
 pub mod SmallRuns

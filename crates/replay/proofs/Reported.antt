@@ -1,5 +1,5 @@
--- What a machine leaves whose owners have all ended: a legal history, each script call once, the pages after it,
--- and their frames.
+-- What a machine leaves whose owners and host have ended: a legal history, each script call once, the pages after
+-- it, and their frames; the lines of the host's commands, and what the device and the driver did.
 use Rattle.std.proofs.Common.{◌≡◌, ◌≢◌, ℕ, cond, Bool, true, eq-eqb, ne_eqb, zero, suc, ◌+◌, ◌<◌, ◌≤◌, List, [], ◌++◌, length, map, get_or, sym, refl, ap, ◌∙◌, subst, arith, Option, Some, None}
 use Rattle.std.specs.Option.{option_map}
 use Rattle.std.specs.List.{slice_get, AllByRecursion}
@@ -8,12 +8,15 @@ use Rattle.std.proofs.lemmas.List.{get_or_past}
 use Rattle.std.proofs.lemmas.Option.{same_Some, none-some, slice_get-map}
 use mathlib.Core.Logic.{dite}
 use native.Mathlib.Decide.{dec_le}
+use Rattle.evac_model.specs.declared.device_journal.DeviceAction.{DeviceAction}
 use Rattle.evac_model.specs.declared.entry.Entry.{Entry}
+use Rattle.evac_model.specs.declared.host.HostLine.{HostLine}
 use Rattle.evac_model.specs.declared.names.BlockNo.{BlockNo}
 use Rattle.evac_model.specs.declared.scenario.Scenario.{Scenario}
 use Rattle.evac_model.specs.declared.space.SpaceAction.{SpaceAction}
 use Rattle.evac_model.specs.Page.{PlainPage, Page}
-use Rattle.evac_model.specs.Pairing.{AreOutForPages, AreUnplugged}
+use Rattle.evac_model.specs.HostCommands.{host_actions, host_lines, host_onlines, host_runs, AreAnswered}
+use Rattle.evac_model.specs.Pairing.{actions_of, AreOutForPages, AreUnplugged}
 use Rattle.evac_model.specs.ScenarioGrammar.{online_of}
 use Rattle.evac_model.specs.Scenarios.{IsRunnable, IsOwnerCall}
 use Rattle.evac_model.specs.SpaceJournal.{SpaceState, out_for, is_frame_in, space_after, space_at_start}
@@ -36,11 +39,12 @@ use Rattle.report.specs.declared.report.Report.{Report}
 use Rattle.report.specs.FinalPages.{final_page, pages_below, state_of}
 use Rattle.report.proofs.PageLaws.{numbers, state_of-pages_below, rising-below}
 use Rattle.replay.specs.FramesOut.{space_now}
-use Rattle.replay.specs.Machine.{Machine}
-use Rattle.replay.specs.Runs.{opening, plain_start, shown_page, shown_below, AllEnded, IsReportAfter, space_reported, IsReportOf}
+use Rattle.replay.specs.Machine.{Machine, device_at}
+use Rattle.replay.specs.Runs.{opening, plain_start, shown_page, shown_below, block_list, HaveEnded, IsReportAfter, space_reported, device_start, device_reported, IsReportOf}
 use Rattle.replay.specs.Keeping.{IsKept}
 use Rattle.replay.proofs.Callers.{found_at, of_owner, of_scripts}
 use Rattle.replay.proofs.EndCalls.{paired_at_end}
+use Rattle.replay.proofs.EndHost.{all_lines, all_actions, all_onlines}
 use Rattle.replay.proofs.EndedOwners.{let_go}
 use Rattle.replay.proofs.EndFrames.{frames_at_end, unplugged_at_end}
 use Rattle.replay.proofs.Members.{there, all_at, get_or_at, numbered_at}
@@ -71,7 +75,7 @@ shown-below o words st (suc n) is =
 
 -- ---- the report
 
-module _ (s : Scenario) (m : Machine) (r : Report) (run : IsRunnable s) (k : IsKept s m) (ended : AllEnded m.owners) (rep : IsReportAfter s m r) where
+module _ (s : Scenario) (m : Machine) (r : Report) (run : IsRunnable s) (k : IsKept s m) (ended : HaveEnded m) (rep : IsReportAfter s m r) where
   abbrev o : Opening
   o = opening s
 
@@ -87,7 +91,7 @@ module _ (s : Scenario) (m : Machine) (r : Report) (run : IsRunnable s) (k : IsK
   -- an entry is of a page of the machine
   in_range : (j : ℕ) (e : Entry) → slice_get r.history j ≡ Some e → e.page.0 < s.geometry.pages
   in_range j e at =
-      let x = of_owner s m k ended r.history rep.history j e at in
+      let x = of_owner s m k ended.owners r.history rep.history j e at in
       let numbered : slice_get (map numbered_call x.view.entries) x.number ≡ Some (numbered_call e) = slice_get-map numbered_call x.view.entries x.number ∙ ap (λ (q : Option Entry). option_map numbered_call q) x.here in
       let called : slice_get (get_or s.owners x.place []) x.number ≡ Some (e.page, e.call) = numbered_at 0 (script_of s.owners (suc x.place)) x.number e.call_no (e.page, e.call) (ap (λ l. slice_get l x.number) (sym x.seat.entries) ∙ numbered) in
       (all_at (IsOwnerCall s.geometry) (get_or s.owners x.place []) x.number (e.page, e.call)
@@ -107,7 +111,7 @@ module _ (s : Scenario) (m : Machine) (r : Report) (run : IsRunnable s) (k : IsK
       ∙ page_after-quiet o views page 0 (length r.history) (λ u e low lt found q.
       let x = there r.history u (omega arith) in
       let zero_up : o.first + u ≡ u = omega arith in
-      let same : x.0 ≡ e = same_Some x.0 e (sym (found_at s m k ended r.history rep.history u x.0 x.1) ∙ subst (λ (n : ℕ). entry_with n views ≡ Some e) zero_up found) in
+      let same : x.0 ≡ e = same_Some x.0 e (sym (found_at s m k ended.owners r.history rep.history u x.0 x.1) ∙ subst (λ (n : ℕ). entry_with n views ≡ Some e) zero_up found) in
       let range = in_range u x.0 x.1 in
       let on : x.0.page.0 ≡ page = ap (λ (z : Entry). z.page.0) same ∙ q in omega arith)
       ∙ get_or_past (start_pages s.geometry s.start) page None (let n = length-start_pages s.geometry s.start in omega arith)
@@ -118,7 +122,7 @@ module _ (s : Scenario) (m : Machine) (r : Report) (run : IsRunnable s) (k : IsK
       (λ low. omega arith)
 
   shows : (page : ℕ) → page < s.geometry.pages → FreeShows o words (entry_word_of words page) (page_at st page)
-  shows page lt = words_show_the_history o words views (plain_start s) r.history k.seats.sound opens rep.history (let_go s m k ended) page lt
+  shows page lt = words_show_the_history o words views (plain_start s) r.history k.seats.sound opens rep.history (let_go s m k ended.owners) page lt
 
   pages : r.pages ≡ pages_below st s.geometry.pages
   pages = rep.pages ∙ shown-below o words st s.geometry.pages (λ page lt. shown-free o words page (page_at st page) (shows page lt))
@@ -133,7 +137,26 @@ module _ (s : Scenario) (m : Machine) (r : Report) (run : IsRunnable s) (k : IsK
   offline : AreUnplugged s.geometry (space_reported s r) r.plugged
   offline =
       subst (λ (journal : List SpaceAction). AreUnplugged s.geometry (space_after s.geometry (online_of s) (space_at_start s.geometry s.start) journal) r.plugged) (sym rep.space)
-      (subst (λ (plugged : List BlockNo). AreUnplugged s.geometry (space_now s m) plugged) (sym rep.plugged) (unplugged_at_end s m run k))
+      (subst (λ (plugged : List BlockNo). AreUnplugged s.geometry (space_now s m) plugged) (sym rep.plugged) (unplugged_at_end s m k ended))
+
+  -- ---- the host and the device
+
+  host : r.host ≡ host_runs s.host (host_lines s.geometry (device_start s) 0 s.host)
+  host = rep.host ∙ ap (λ (lines : List HostLine). host_runs s.host lines) (all_lines s m k.host ended.host)
+
+  device : r.device_journal ≡ host_actions s.geometry (device_start s) s.host
+  device = rep.device ∙ all_actions s m k.host ended.host
+
+  answered : AreAnswered s.geometry (device_start s) r.device_journal
+  answered = subst (λ (journal : List DeviceAction). AreAnswered s.geometry (device_start s) journal) (sym rep.device) k.host.answered
+
+  driver : actions_of 0 r.space_journal ≡ host_onlines s.geometry (device_start s) s.host
+  driver = ap (λ (journal : List SpaceAction). actions_of 0 journal) rep.space ∙ all_onlines s m k.host ended.host
+
+  plugged : r.plugged ≡ block_list (device_reported s r).plugged
+  plugged = rep.plugged ∙ ap (λ (journal : List DeviceAction). block_list (device_at s.geometry journal).plugged) (sym rep.device)
+
+  -- ---- no frame of an offline block is out
 
   abbrev IsEmptied : SpaceState → Type 0
   IsEmptied space = (frame : ℕ) → is_frame_in s.geometry space.offline frame ≡ true → out_for space frame ≡ None
@@ -146,11 +169,15 @@ module _ (s : Scenario) (m : Machine) (r : Report) (run : IsRunnable s) (k : IsK
   pub reports_tell_legal_histories : IsReportOf s r
   reports_tell_legal_histories = record {
     legal = histories_are_legal o words views (plain_start s) r.history k.seats.sound opens rep.history;
-    scripts = of_scripts s m k ended r.history rep.history;
+    scripts = of_scripts s m k ended.owners r.history rep.history;
     pages = ap state_of pages ∙ state_of-pages_below st s.geometry.pages beyond;
     rising = subst (λ ps. IsStrictlyIncreasing (numbers ps)) (sym pages) (rising-below st s.geometry.pages).0;
-    plugged = rep.plugged;
-    space = paired_at_end s m r run k ended rep;
+    host = host;
+    device = device;
+    answered = answered;
+    driver = driver;
+    plugged = plugged;
+    space = paired_at_end s m r run k ended.owners rep;
     frames = frames;
     offline = offline;
     no_unplugged = no_unplugged;
