@@ -1,3 +1,5 @@
+pub mod HeldBlocks
+pub mod HostBlocks
 pub mod Members
 pub mod InOrder
 pub mod MovesInOrder
