@@ -1,5 +1,5 @@
 pub mod HeldBlocks
-pub mod HostBlocks
+pub mod HeldOnline
 pub mod Members
 pub mod InOrder
 pub mod MovesInOrder
@@ -36,6 +36,7 @@ pub mod Schedules
 pub mod Places
 pub mod Asking
 pub mod Playing
+pub mod HostPlaying
 pub mod EndedOwners
 pub mod Left
 pub mod Done

@@ -5,7 +5,7 @@ use Rattle.core_actors.specs.Hosts.{HostState, host_action}
 use Rattle.evac_model.specs.HostCommands.{blocks_of}
 use Rattle.replay.specs.HostSeats.{HostSoFar, host_scene, without_lines}
 use Rattle.replay.specs.Machine.{HostScene}
-use Rattle.replay.proofs.HostBlocks.{both_ok, next_is, held_asked, PutsOnline, puts_online, held_online}
+use Rattle.replay.proofs.HeldOnline.{both_ok, next_is, held_asked, PutsOnline, puts_online, held_online}
 use Rattle.replay.proofs.host_seat.act.Goals as goal
 
 pub returns-in-Device-clause-held : goal.returns-in-Device-clause-held
