@@ -2,6 +2,8 @@ pub mod BlockFrames
 pub mod HandedFrames
 pub mod PlugAnswers
 pub mod HostBlocks
+pub mod HeldBlocks
+pub mod HeldOnline
 pub mod Members
 pub mod InOrder
 pub mod MovesInOrder
@@ -47,6 +49,7 @@ pub mod Schedules
 pub mod Places
 pub mod Asking
 pub mod Playing
+pub mod HostPlaying
 pub mod EndedOwners
 pub mod Left
 pub mod Done

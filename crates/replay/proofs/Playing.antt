@@ -4,6 +4,7 @@ use Rattle.std.specs.Result.{OnOk, OnErr}
 use Rattle.std.specs.List.{slice_get}
 use Rattle.std.proofs.lemmas.List.{set-get_or}
 use Rattle.std.proofs.lemmas.Option.{get_or_from_slice_get, slice_get-get_or, same_Some, none-some}
+use Rattle.evac_model.specs.declared.device_journal.DeviceAction.{DeviceAction}
 use Rattle.evac_model.specs.declared.names.Kind.{Kind}
 use Rattle.evac_model.specs.declared.names.PageNo.{PageNo}
 use Rattle.evac_model.specs.declared.scenario.Actor.TheVariants.{Owner}
@@ -32,10 +33,12 @@ use Rattle.core_state.proofs.Lists.{at_set, within}
 use Rattle.core_state.proofs.Rooms.{seat_has}
 use Rattle.core_actors.specs.declared.action.Action.{Action}
 use Rattle.core_actors.specs.declared.action.Action.TheVariants as actions
-use Rattle.core_actors.specs.declared.action.SpaceCall.TheVariants.{Lease, Return}
+use Rattle.core_actors.specs.declared.action.SpaceCall.TheVariants.{Lease, Return, Online}
+use Rattle.core_actors.specs.Hosts.{host_at_start}
 use Rattle.core_actors.specs.Owners.{OwnerState, owner_at_start, owner_ended, next_action}
 use Rattle.space.specs.JournaledSpace.{JournaledSpace}
-use Rattle.replay.specs.Machine.{Setting, Machine, Scene, free_seat, space_at, handed, after_lease, after_action, after_next, owner_of, with_scene, after_turn}
+use Rattle.replay.specs.HostSeats.{HostSoFar}
+use Rattle.replay.specs.Machine.{Setting, Machine, Scene, free_seat, space_at, handed_frames, after_lease, after_action, after_next, owner_of, with_scene, after_turn}
 use Rattle.replay.specs.Keeping.{IsKept}
 use Rattle.replay.specs.Quiet.{IsQuiet}
 use Rattle.replay.specs.Runs.{opening, setting, budgets_of, owners_from, machine_at_start}
@@ -74,17 +77,18 @@ quiet_set views seat w none quiet = record {
       (at_set views seat (suc i) w u at);
 }
 
-quiet_handed : (s : Snapshot) (from to frame : ℕ) → from < length s.views → to < length s.views → IsQuiet s.views → IsQuiet (handed s from to frame).views
-quiet_handed s from to frame giver receiver quiet =
+-- frames that change hands change nobody's right
+pub quiet_handed : (s : Snapshot) (from to first n : ℕ) → from < length s.views → to < length s.views → IsQuiet s.views → IsQuiet (handed_frames s from to first n).views
+quiet_handed s from to first n giver receiver quiet =
     let v = view_of s.views from in
     let w = view_of s.views to in
-    quiet_set (set s.views from (record v { hand = hand_without v.hand frame 1 })) to (record w { hand = hand_with w.hand v.hand frame 1 }) (quiet_at s.views to receiver quiet)
-    (quiet_set s.views from (record v { hand = hand_without v.hand frame 1 }) (quiet_at s.views from giver quiet) quiet)
+    quiet_set (set s.views from (record v { hand = hand_without v.hand first n })) to (record w { hand = hand_with w.hand v.hand first n }) (quiet_at s.views to receiver quiet)
+    (quiet_set s.views from (record v { hand = hand_without v.hand first n }) (quiet_at s.views from giver quiet) quiet)
 
 module _ (c : Setting) (seat free : ℕ) (x : Scene) (there : seat < length x.snapshot.views) (free_there : free < length x.snapshot.views) (quiet : IsQuiet x.snapshot.views) where
   quiet_lease : (l : Option Leased) → (page : PageNo) (kind : Kind) → IsQuiet (after_lease seat free x page kind l).snapshot.views
   quiet_lease None page kind = quiet
-  quiet_lease (Some l) page kind = quiet_handed x.snapshot free seat l.frame free_there there quiet
+  quiet_lease (Some l) page kind = quiet_handed x.snapshot free seat l.frame 1 free_there there quiet
 
   quiet_action : (action : Action) → IsQuiet (after_action c seat free x action).snapshot.views
   quiet_action (actions.Step step) =
@@ -95,7 +99,9 @@ module _ (c : Setting) (seat free : ℕ) (x : Scene) (there : seat < length x.sn
       let v = view_of x.snapshot.views seat in
       quiet_set x.snapshot.views seat (view_after_move OneOwner v step) (λ i e. move_keeps_mover OneOwner v step ∙ quiet_at x.snapshot.views seat there quiet i e) quiet
   quiet_action (actions.Space (Lease page kind)) = quiet_lease (lease_of c.sizes c.online (space_at c x.journal) seat kind) page kind
-  quiet_action (actions.Space (Return frame)) = quiet_handed x.snapshot seat free frame.0 there free_there quiet
+  quiet_action (actions.Space (Return frame)) = quiet_handed x.snapshot seat free frame.0 1 there free_there quiet
+  quiet_action (actions.Space (Online block)) = quiet
+  quiet_action (actions.Device call) = quiet
   quiet_action actions.Ended = quiet
 
   quiet_by_end : (b : Bool) → IsQuiet (cond b x (after_action c seat free x (next_action x.owner))).snapshot.views
@@ -211,25 +217,25 @@ quiet_start s start budgets = record { none = λ i v at. still_owners s 1 budget
 abbrev pub space_opened : Sizes → (online : Kind) → List StartPage → JournaledSpace
 space_opened g online start = record { sizes = g; online = online; opening = space_at_start g start; journal = [] }
 
--- what a machine is opened with, and what it is then, as a core, a space and the owners have it
-abbrev pub IsStart : Scenario → Opening → JournaledSpace → Snapshot → List OwnerState → Type 0
-IsStart s o sp t owners =
-    (setting_of o sp ≡ setting s) × (record { snapshot = t; owners = owners; journal = sp.journal } ≡ machine_at_start s)
+-- what a machine is opened with, and what it is then, as a core, a space, the owners, the host and a device have it
+abbrev pub IsStart : Scenario → Opening → JournaledSpace → Snapshot → List OwnerState → HostSoFar → List DeviceAction → Type 0
+IsStart s o sp t owners h device =
+    (setting_of o sp ≡ setting s)
+    × (record { snapshot = t; owners = owners; journal = sp.journal; host = h.state; lines = h.lines; device = device } ≡ machine_at_start s)
 
--- a core and a space that are opened for a scenario, and its owners at the start
-pub started : (s : Scenario) (o : Opening) (sp : JournaledSpace) (t : Snapshot) (owners : List OwnerState) (start pages : List StartPage) (budgets : List ℕ) (online : Kind)
+-- a core and a space that are opened for a scenario, and its owners and its host at the start
+pub started : (s : Scenario) (o : Opening) (sp : JournaledSpace) (t : Snapshot) (owners : List OwnerState) (h : HostSoFar) (device : List DeviceAction) (start pages : List StartPage) (budgets : List ℕ) (online : Kind)
     → start ≡ s.start → pages ≡ s.start → budgets ≡ budgets_of s.owners → online ≡ online_of s → o ≡ opening_of s.geometry start budgets → sp ≡ space_opened s.geometry online pages
-    → t.words ≡ opening_words s.geometry start → t.views ≡ opening_views s.geometry start budgets → owners ≡ owners_from s.geometry.cells 1 s.owners → IsStart s o sp t owners
-started s o sp t owners start pages budgets online starts paged calls kinds os sps ws vs us =
+    → t.words ≡ opening_words s.geometry start → t.views ≡ opening_views s.geometry start budgets → owners ≡ owners_from s.geometry.cells 1 s.owners
+    → h ≡ record { state = host_at_start s.geometry s.host; lines = [] } → device ≡ [] → IsStart s o sp t owners h device
+started s o sp t owners h device start pages budgets online starts paged calls kinds os sps ws vs us hs ds =
     let space : sp ≡ space_opened s.geometry (online_of s) s.start = sps ∙ ap (λ (k : Kind). space_opened s.geometry k pages) kinds ∙ ap (λ (l : List StartPage). space_opened s.geometry (online_of s) l) paged in
     let opened : o ≡ opening s = os ∙ ap (λ (l : List StartPage). opening_of s.geometry l budgets) starts ∙ ap (λ (l : List ℕ). opening_of s.geometry s.start l) calls in
     let views : t.views ≡ opening_views s.geometry s.start (budgets_of s.owners) = vs ∙ ap (λ (l : List StartPage). opening_views s.geometry l budgets) starts ∙ ap (λ (l : List ℕ). opening_views s.geometry s.start l) calls in
-    let words : t.words ≡ opening_words s.geometry s.start = ws ∙ ap (λ (l : List StartPage). opening_words s.geometry l) starts in (
+    let words : t.words ≡ opening_words s.geometry s.start = ws ∙ ap (λ (l : List StartPage). opening_words s.geometry l) starts in
+    let journal : sp.journal ≡ [] = ap (λ (y : JournaledSpace). y.journal) space in (
       ap (λ (p : Opening). setting_of p sp) opened ∙ ap (λ (y : JournaledSpace). setting_of (opening s) y) space,
-      ap (λ (l : List ℕ). let m : Machine = record { snapshot = record { words = l; views = t.views }; owners = owners; journal = sp.journal } in m) words
-          ∙ ap (λ (l : List View). let m : Machine = record { snapshot = record { words = opening_words s.geometry s.start; views = l }; owners = owners; journal = sp.journal } in m) views
-          ∙ ap (λ (l : List OwnerState). let m : Machine = record { snapshot = (machine_at_start s).snapshot; owners = l; journal = sp.journal } in m) us
-          ∙ ap (λ (y : JournaledSpace). let m : Machine = record { snapshot = (machine_at_start s).snapshot; owners = (machine_at_start s).owners; journal = y.journal } in m) space,
+      rw (words, views, us, journal, hs, ds) refl,
     )
 
 pub kept_at_start : (s : Scenario) (m : Machine) → IsRunnable s → m ≡ machine_at_start s → IsKept s m

@@ -27,6 +27,10 @@ pub record HostSoFar : Type 0 where
   pub state : HostState
   pub lines : List HostLine
 
+-- a host, where its lines don't count
+abbrev pub without_lines : HostState → HostSoFar
+without_lines h = record { state = h; lines = [] }
+
 -- what an action of the host may change, as a core, a host, a frame space and a memory device have it
 abbrev pub host_scene : Snapshot → HostSoFar → List SpaceAction → List DeviceAction → HostScene
 host_scene s h journal device = record { snapshot = s; host = h.state; lines = h.lines; journal = journal; device = device }

@@ -1,6 +1,6 @@
 //! What the host asks of the memory device and of the frame space, each with the hand-over that goes with it.
 
-ghost use Rattle.std.specs.Prelude.{◌≡◌, ◌≢◌, ◌<◌, ◌≤◌, true, [], length, List, IfOk, OnErr};
+ghost use Rattle.std.specs.Prelude.{◌≡◌, ◌≢◌, ◌+◌, ◌<◌, ◌≤◌, true, [], length, List, IfOk, OnErr};
 ghost use Rattle.evac_model.specs.declared.device_journal.DeviceAction.{DeviceAction};
 ghost use Rattle.evac_model.specs.declared.space.SpaceAction.{SpaceAction};
 ghost use Rattle.evac_model.specs.DeviceAnswer.{request_in};

@@ -1,4 +1,12 @@
-//! The host beside what it is to hear at its next turn, and its turns.
+//! The host and the lines of its commands, and its turns.
+
+ghost use Rattle.std.specs.Prelude.{◌≡◌, ◌≢◌, ◌<◌, length, IfOk, OnErr};
+ghost use Rattle.core_state.specs.CoreState.{IsSound};
+ghost use Rattle.core_actors.specs.Hosts.{host_heard, IsHostUnderWay};
+ghost use Rattle.evac_model.specs.HostCommands.{blocks_of};
+ghost use Rattle.replay.specs.Machine.{after_host_next};
+ghost use Rattle.replay.specs.Seats.{setting_of};
+ghost use Rattle.replay.specs.HostSeats.{HostSoFar, host_scene, heard_so_far, without_lines, MayHostAct};
 
 use crate::host_calls::{ReplayDevice, ask_device, put_online};
 use core_actors::{Action, Heard, Host, Others, SpaceCall};
@@ -9,12 +17,11 @@ use space::Space;
 use std::alloc::Global;
 use std::marker::Model;
 
-/// The host, what its last action gave, and the lines of its commands. Contracts see the host and the lines as
-/// they stand once it has heard that.
+/// The host, and the lines of its commands. It hears at once what its action gave, so that the line of a command
+/// is there as soon as the command has ended.
 #[derive(Drop)]
 pub struct HostSeat {
     host: Host,
-    last: Heard,
     lines: Vec<HostLine>,
     ended: bool,
 }
@@ -39,6 +46,48 @@ const OTHERS: Others = Others {
     final_made: false,
 };
 
+/// Makes the next action of a host, if it hasn't ended, and gives what is heard of it. Where there is no memory
+/// for a journal, nothing changes.
+fn act(
+    host: &mut Host,
+    core: &mut Core,
+    space: &mut Space,
+    device: &mut ReplayDevice,
+    held: &mut BlockHand,
+    free: u32,
+    unplugged: u32,
+) -> Result<Heard, OutOfMemory>
+    requires free { free < length core.old.snapshot.views }
+    requires unplugged { unplugged < length core.old.snapshot.views }
+    requires free_apart { free ≢ 0 }
+    requires unplugged_apart { unplugged ≢ 0 }
+    requires sound { IsSound core.old }
+    requires may { MayHostAct (setting_of core.old.opening space.old) free unplugged (host_scene core.old.snapshot (without_lines host.old.state) space.old.journal device.old.journal) }
+    requires under_way { IsHostUnderWay host.old.state }
+    requires sizes { host.old.state.sizes ≡ space.old.sizes }
+    requires device { device.old.sizes ≡ space.old.sizes }
+    requires held { held.old.blocks ≡ blocks_of host.old.state.online }
+    requires room { held.old.room ≡ space.old.sizes.managed }
+    ensures acted { IfOk result (λ heard. (h : HostSoFar) → h.state ≡ host.old.state → host_scene core.new.snapshot (heard_so_far h heard) space.new.journal device.new.journal
+        ≡ after_host_next space.old.sizes free unplugged (host_scene core.old.snapshot h space.old.journal device.old.journal)) }
+    ensures host { host.new.state ≡ host.old.state }
+    ensures sound { IsSound core.new }
+    ensures setting { setting_of core.new.opening space.new ≡ setting_of core.old.opening space.old }
+    ensures device { device.new.sizes ≡ device.old.sizes }
+    ensures held { IfOk result (λ heard. held.new.blocks ≡ blocks_of (host_heard host.old.state heard).online) }
+    ensures room { held.new.room ≡ held.old.room }
+    ensures err { OnErr result ((core.new ≡ core.old) × (space.new ≡ space.old) × (device.new ≡ device.old) × (held.new.blocks ≡ held.old.blocks)) }
+{
+    match host.next(Heard::Start, OTHERS) {
+        Action::Device(call) => ask_device(core, device, held, unplugged, call),
+        Action::Space(SpaceCall::Online { block }) => {
+            Ok(put_online(core, space, held, free, block))
+        }
+        // one that has ended makes none, and the host makes no step on a word, and leases no frame
+        Action::Ended | Action::Step(_) | Action::Move(_) | Action::Space(_) => Ok(Heard::Start),
+    }
+}
+
 impl HostSeat {
     ghost use Rattle.std.specs.Prelude.{◌≡◌, ◌≢◌, ◌<◌, true, [], length, OnOk, OnErr};
     ghost use Rattle.core_state.specs.CoreState.{IsSound};
@@ -54,7 +103,6 @@ impl HostSeat {
     {
         HostSeat {
             host,
-            last: Heard::Start,
             lines: Vec::new(alloc),
             ended: false,
         }
@@ -67,9 +115,8 @@ impl HostSeat {
         self.ended
     }
 
-    /// The lines of the commands that have ended, where the host was found to have ended.
+    /// The lines of the commands that have ended.
     pub fn lines(&self) -> &[HostLine]
-        requires { host_ended self.now.state ≡ true }
         ensures { result.now ≡ self.now.lines }
     {
         self.lines.as_slice()
@@ -111,20 +158,19 @@ impl HostSeat {
         if self.lines.reserve(1).is_err() {
             return Err(OutOfMemory);
         }
-        let action = self.host.next(self.last, OTHERS);
-        // what was heard is heard once
-        self.last = Heard::Start;
+        let heard = act(
+            &mut self.host,
+            core,
+            space,
+            device,
+            held,
+            free,
+            unplugged,
+        )?;
+        let next = self.host.next(heard, OTHERS);
+        self.ended = matches!(next, Action::Ended);
         if let Some(line) = self.host.line() {
             self.lines.push_reserved(line);
-        }
-        match action {
-            Action::Device(call) => self.last = ask_device(core, device, held, unplugged, call)?,
-            Action::Space(SpaceCall::Online { block }) => {
-                self.last = put_online(core, space, held, free, block);
-            }
-            Action::Ended => self.ended = true,
-            // the host makes no step on a word, and leases no frame
-            Action::Step(_) | Action::Move(_) | Action::Space(_) => {}
         }
         Ok(())
     }
