@@ -39,6 +39,9 @@ invariant_of-self c =
       set = c.turn.ensures.setting ∙ c.self.invariant.set;
       kept = left.0;
       quiet = left.1;
+      device = c.self.invariant.device;
+      held = c.self.invariant.held;
+      room = c.self.invariant.room;
     }
 
 pub returns-clause-turned : goal.returns-clause-turned
