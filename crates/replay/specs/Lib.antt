@@ -9,6 +9,7 @@ pub mod Quiet
 pub mod Seats
 pub mod HostSeats
 pub mod HostSeatInside
+pub mod StartParts
 pub mod RunningInside
 pub mod Entries
 pub mod Shown

@@ -158,15 +158,7 @@ impl HostSeat {
         if self.lines.reserve(1).is_err() {
             return Err(OutOfMemory);
         }
-        let heard = act(
-            &mut self.host,
-            core,
-            space,
-            device,
-            held,
-            free,
-            unplugged,
-        )?;
+        let heard = act(&mut self.host, core, space, device, held, free, unplugged)?;
         let next = self.host.next(heard, OTHERS);
         self.ended = matches!(next, Action::Ended);
         if let Some(line) = self.host.line() {

@@ -1,15 +1,21 @@
 //! The replay of a scenario.
 
-ghost use Rattle.std.specs.Prelude.{◌≡◌, ◌≤◌, ◌^◌, length, IfOk};
+ghost use Rattle.std.specs.Prelude.{◌≡◌, ◌≤◌, ◌^◌, [], length, IfOk};
 ghost use Rattle.std.specs.List.{AllByRecursion};
 ghost use Rattle.evac_model.specs.Scenarios.{IsRunnable, IsOwnerCall};
-ghost use Rattle.evac_model.specs.ScenarioGrammar.{call_count};
+ghost use Rattle.evac_model.specs.ScenarioGrammar.{call_count, online_of};
 ghost use Rattle.evac_model.specs.Turns.{turn_count};
 ghost use Rattle.evac_model.specs.declared.scenario.Scenario.{Scenario};
 ghost use Rattle.replay.specs.Keeping.{IsKept};
-ghost use Rattle.replay.specs.Runs.{budgets_of, owners_from, setting, machine_at_start, HaveEnded, IsReportAfter};
+ghost use Rattle.core_state.specs.CoreState.{IsSound};
+ghost use Rattle.core_actors.specs.Hosts.{host_at_start};
+ghost use Rattle.evac_model.specs.SpaceJournal.{space_at_start};
+ghost use Rattle.replay.specs.Seats.{setting_of};
+ghost use Rattle.replay.specs.StartParts.{AreStartParts};
+ghost use Rattle.replay.specs.Runs.{budgets_of, owners_from, opening, setting, machine_at_start, HaveEnded, IsReportAfter};
 
 use crate::history::history;
+use crate::host_calls::ReplayDevice;
 use crate::host_report::{actions, runs};
 use crate::host_seat::HostSeat;
 use crate::machine::Running;
@@ -116,29 +122,85 @@ fn report_of(alloc: Global, commands: &[HostCommand], run: &Running) -> Result<R
     })
 }
 
+/// The core of a scenario at its start.
+fn core_of(alloc: Global, s: &Scenario) -> Result<Core, OutOfMemory>
+    requires { IsRunnable s.now }
+    ensures opening { IfOk result (λ core. core.opening ≡ opening s.now) }
+    ensures snapshot { IfOk result (λ core. core.snapshot ≡ (machine_at_start s.now).snapshot) }
+    ensures sound { IfOk result (λ core. IsSound core) }
+{
+    let budgets = budgets(alloc, s.owners.as_slice())?;
+    Ok(Core::open(alloc, s.geometry, s.start.as_slice(), budgets.as_slice())?)
+}
+
+/// The frame space of a scenario at its start.
+fn space_of(alloc: Global, s: &Scenario) -> Result<Space, OutOfMemory>
+    requires { IsRunnable s.now }
+    ensures { IfOk result (λ space. space ≡ record { sizes = s.now.geometry; online = online_of s.now; opening = space_at_start s.now.geometry s.now.start; journal = [] }) }
+{
+    let online = s.online.unwrap_or(Kind::Movable);
+    Ok(Space::open(alloc, s.geometry, online, s.start.as_slice())?)
+}
+
+/// The memory device of a machine at its start.
+fn device_of(alloc: Global, g: Geometry) -> Result<ReplayDevice, OutOfMemory>
+    ensures sizes { IfOk result (λ device. device.sizes ≡ g) }
+    ensures journal { IfOk result (λ device. device.journal ≡ []) }
+{
+    let unplugged = BlockHand::new(alloc, g, BlockNo(g.plugged()), g.managed() - g.plugged())?;
+    Ok(Device::open(alloc, g, SureSlate::new(), unplugged)?)
+}
+
+/// A hand with no block, and with room for each block of a machine.
+fn empty_hand(alloc: Global, g: Geometry) -> Result<BlockHand, OutOfMemory>
+    ensures blocks { IfOk result (λ held. held.blocks ≡ []) }
+    ensures room { IfOk result (λ held. held.room ≡ g.managed) }
+{
+    Ok(BlockHand::new(alloc, g, BlockNo(0), 0)?)
+}
+
+/// The host of a scenario at the start of its commands.
+fn host_of(alloc: Global, s: &Scenario) -> Result<HostSeat, AllocError>
+    ensures { IfOk result (λ host. host ≡ record { state = host_at_start s.now.geometry s.now.host; lines = [] }) }
+{
+    let commands = commands_of(alloc, s.host.as_slice())?;
+    Ok(HostSeat::new(alloc, Host::new(s.geometry, commands)))
+}
+
+/// The parts of the machine of some scenario at its start, as one.
+fn joined(
+    core: Core,
+    space: Space,
+    device: ReplayDevice,
+    held: BlockHand,
+    host: HostSeat,
+    owners: Vec<OwnerSeat>,
+) -> Running
+    requires { AreStartParts core space host owners.items device.sizes device.journal held }
+    ensures { result ≡ record { setting = setting_of core.opening space; machine = record { snapshot = core.snapshot; owners = owners.items; journal = space.journal; host = host.state; lines = host.lines; device = device.journal } } }
+{
+    Running {
+        core,
+        space,
+        device,
+        held,
+        host,
+        owners: Listed::from_vec(owners),
+    }
+}
+
 /// The machine of a scenario at its start.
 fn running(alloc: Global, s: &Scenario) -> Result<Running, OutOfMemory>
     requires { IsRunnable s.now }
     ensures { IfOk result (λ r. r ≡ record { setting = setting s.now; machine = machine_at_start s.now }) }
 {
-    let g = s.geometry;
-    let budgets = budgets(alloc, s.owners.as_slice())?;
-    let core = Core::open(alloc, g, s.start.as_slice(), budgets.as_slice())?;
-    let online = s.online.unwrap_or(Kind::Movable);
-    let space = Space::open(alloc, g, online, s.start.as_slice())?;
-    let unplugged = BlockHand::new(alloc, g, BlockNo(g.plugged()), g.managed() - g.plugged())?;
-    let device = Device::open(alloc, g, SureSlate::new(), unplugged)?;
-    let held = BlockHand::new(alloc, g, BlockNo(0), 0)?;
-    let commands = commands_of(alloc, s.host.as_slice())?;
-    let owners = Listed::from_vec(owners(alloc, &g, s.owners.as_slice())?);
-    Ok(Running {
-        core,
-        space,
-        device,
-        held,
-        host: HostSeat::new(alloc, Host::new(g, commands)),
-        owners,
-    })
+    let host = host_of(alloc, s)?;
+    let owners = owners(alloc, &s.geometry, s.owners.as_slice())?;
+    let held = empty_hand(alloc, s.geometry)?;
+    let space = space_of(alloc, s)?;
+    let core = core_of(alloc, s)?;
+    let device = device_of(alloc, s.geometry)?;
+    Ok(joined(core, space, device, held, host, owners))
 }
 
 /// The replay of one scenario: its turns, and the machine at the start. Each turn makes one step of one
