@@ -1,11 +1,10 @@
 -- The blocks that the driver holds are those that the host is to put online.
-use Rattle.std.proofs.Common.{◌≡◌, ℕ, zero, suc, ◌-◌, ◌≤◌, ◌==◌, Bool, true, false, List, [], ◌∷◌, refl, sym, ap, ◌∙◌, arith, Option, Result, Ok, Err}
+use Rattle.std.proofs.Common.{◌≡◌, ℕ, suc, ◌-◌, ◌==◌, Bool, true, false, List, [], ◌∷◌, refl, sym, ap, ◌∙◌, arith, Option, Result, Ok, Err}
 use Rattle.std.specs.List.{range_with_len}
 use Rattle.std.specs.Result.{IfOk}
 use Rattle.std.proofs.lemmas.Bool.{eqb-true, eqb-false}
 use Rattle.evac_model.specs.declared.device.Config.{Config}
 use Rattle.evac_model.specs.declared.device.Response.{Response}
-use Rattle.evac_model.specs.declared.device_journal.DeviceAction.{DeviceAction}
 use Rattle.evac_model.specs.declared.host.HostCommand.{HostCommand}
 use Rattle.evac_model.specs.declared.host.HostCommand.TheVariants as commands
 use Rattle.evac_model.specs.declared.host.HostResult.{HostResult}

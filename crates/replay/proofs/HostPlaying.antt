@@ -1,5 +1,5 @@
 -- A machine whose host makes turns.
-use Rattle.std.proofs.Common.{◌≡◌, ℕ, ◌+◌, ◌*◌, ◌==◌, ◌<◌, ◌≤◌, cond, Bool, true, false, List, length, refl, ap, sym, ◌∙◌, subst, arith}
+use Rattle.std.proofs.Common.{◌≡◌, ℕ, ◌*◌, ◌==◌, ◌<◌, cond, Bool, true, false, length, refl, ap, sym, ◌∙◌, subst, arith}
 use Rattle.evac_model.specs.declared.scenario.Actor.TheVariants.{Host}
 use Rattle.evac_model.specs.declared.scenario.Scenario.{Scenario}
 use Rattle.evac_model.specs.Geometry.{Sizes, first_frame}

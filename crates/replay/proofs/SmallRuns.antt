@@ -104,7 +104,7 @@ full_within = record {
 -- a scenario on a machine
 abbrev pub scenario : Sizes → List StartPage → List Turn → Option Drawn → List (List (PageNo × Call)) → Scenario
 scenario sizes start named drawn owners =
-    record { geometry = sizes; online = None; start = start; named = named; drawn = drawn; owners = owners }
+    record { geometry = sizes; online = None; start = start; named = named; drawn = drawn; owners = owners; host = [] }
 
 runs : (sizes : Sizes) (start : List StartPage) (named : List Turn) (drawn : Option Drawn) (owners : List (List (PageNo × Call))) → IsWithinLimits sizes → MayStart sizes start → AllByRecursion IsTurn named → turn_count named ≤ 2 ^ 24
     → IfSome drawn IsDraw → length owners ≤ 16 → AllByRecursion (λ script. AllByRecursion (IsOwnerCall sizes) script) owners → call_count owners ≤ 2 ^ 20 → IsRunnable (scenario sizes start named drawn owners)
@@ -118,6 +118,8 @@ runs sizes start named drawn owners within may each turns draws few calls count 
   owners = few;
   calls = calls;
   count = count;
+  commands = tt;
+  few = lit≤ tt;
 }
 
 -- ---- the scripts

@@ -1,5 +1,5 @@
 -- The parts of a machine at the start.
-use Rattle.std.specs.Prelude.{◌≡◌, ℕ, List, []}
+use Rattle.std.specs.Prelude.{◌≡◌, List, []}
 use Rattle.evac_model.specs.declared.device_journal.DeviceAction.{DeviceAction}
 use Rattle.evac_model.specs.declared.scenario.Scenario.{Scenario}
 use Rattle.evac_model.specs.Geometry.{Sizes}

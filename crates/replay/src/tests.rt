@@ -1,14 +1,14 @@
 //! The worked schedules, by values counted by hand.
 
-ghost use Rattle.std.specs.Prelude.{◌≡◌, ◌^◌, ◌≤◌, ◌∷◌, [], replicate, IfOk, IfSome};
+ghost use Rattle.std.specs.Prelude.{◌≡◌, ◌^◌, ◌≤◌, ◌∷◌, [], length, replicate, IfOk, IfSome};
 ghost use Rattle.std.specs.List.{AllByRecursion};
-ghost use Rattle.evac_model.specs.Scenarios.{IsRunnable};
+ghost use Rattle.evac_model.specs.Scenarios.{IsRunnable, IsHostCommand};
 ghost use Rattle.evac_model.specs.Turns.{IsTurn, IsDraw, turn_count};
 
 use crate::Replay;
 use evac_model::{
-    Actor, Call, CallList, Cells, Drawn, Entry, FrameNo, Geometry, Kind, Listed, PageNo, Reply,
-    Scenario, SpaceAction, StartPage, Turn,
+    Actor, Call, CallList, Cells, Drawn, Entry, FrameNo, Geometry, HostCommand, HostResult, Kind,
+    Listed, PageNo, Reply, RequestBytes, Response, Scenario, SpaceAction, StartPage, Turn,
 };
 use report::Report;
 use std::alloc::Global;
@@ -420,5 +420,90 @@ fn the_bound_counts_turns(rt: HostRuntime) -> Result<(), Fail> {
     let s = write_and_read(rt.alloc(), &[turns(1, 1), turns(2, 3), turns(1, 4)])?;
     let replay = Replay::open(rt.alloc(), &s).ok().ok_or("memory")?;
     assert_eq!(rt; replay.bound(), 76);
+    Ok(())
+}
+
+/// A request of one byte, which is none.
+fn one_byte() -> HostCommand
+    ensures { result ≡ HostCommand.Request (255 ∷ []) }
+{
+    HostCommand::Request {
+        bytes: RequestBytes::from_slice(&[255]),
+    }
+}
+
+/// The scenario with these commands.
+fn with_commands(s: Scenario, commands: Vec<HostCommand>) -> Scenario
+    requires runs { IsRunnable s }
+    requires each { AllByRecursion IsHostCommand commands.items }
+    requires few { length commands.items ≤ 256 }
+    ensures { IsRunnable result }
+{
+    let Scenario {
+        geometry,
+        online,
+        start,
+        named,
+        drawn,
+        owners,
+        host: _,
+    } = s;
+    Scenario {
+        geometry,
+        online,
+        start,
+        named,
+        drawn,
+        owners,
+        host: Listed::from_vec(commands),
+    }
+}
+
+/// Owner 1 writes and owner 2 reads beside a host that reads the configuration, sends a byte, and reads it again.
+fn commands_beside_calls(alloc: Global) -> Result<Scenario, Fail>
+    ensures { IfOk result (λ s. IsRunnable s) }
+{
+    let s = write_and_read(alloc, &[turns(1, 1), host_turns(2), turns(2, 3)])?;
+    let commands = vec![in alloc; HostCommand::Config, one_byte(), HostCommand::Config]?;
+    Ok(with_commands(s, commands))
+}
+
+/// So many turns of the host.
+fn host_turns(count: u32) -> Turn
+    ensures { result ≡ record { actor = Actor.Host; count = count } }
+{
+    Turn {
+        actor: Actor::Host,
+        count,
+    }
+}
+
+#[test]
+fn the_host_runs_its_commands_beside_calls(rt: HostRuntime) -> Result<(), Fail> {
+    let s = commands_beside_calls(rt.alloc())?;
+    let report = report(rt.alloc(), &s)?;
+    assert_eq!(rt; report.history.len(), 2);
+    assert_eq!(rt; report.device_journal.len(), 1);
+    assert_eq!(rt; report.plugged.len(), 4);
+    let [first, second, third] = report.host.as_slice() else {
+        return Err("commands".into());
+    };
+    assert_eq!(rt; [first.line.no, second.line.no, third.line.no], [0, 1, 2]);
+    assert_eq!(rt; second.command, one_byte());
+    assert_eq!(rt; second.line.result, HostResult::Answered(Response::Error));
+    assert_eq!(rt; first.line.result, third.line.result);
+    let HostResult::Config(config) = third.line.result else {
+        return Err("configuration".into());
+    };
+    assert_eq!(rt; config.plugged_size, 256);
+    Ok(())
+}
+
+// 6 named turns, and 4 actors in 1 + 2 * (2 + 6) + 3 * (24 * (11 * 2 + 36) + 9 * 4 + 4) rounds.
+#[test]
+fn the_bound_counts_commands(rt: HostRuntime) -> Result<(), Fail> {
+    let s = commands_beside_calls(rt.alloc())?;
+    let replay = Replay::open(rt.alloc(), &s).ok().ok_or("memory")?;
+    assert_eq!(rt; replay.bound(), 17_258);
     Ok(())
 }

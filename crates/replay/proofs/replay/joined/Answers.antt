@@ -1,7 +1,5 @@
-use Rattle.std.proofs.Common.{◌≡◌, ◌∙◌, List, [], ap, sym, subst, refl}
-use Rattle.evac_model.specs.declared.call.Call.{Call}
+use Rattle.std.proofs.Common.{◌≡◌, ◌∙◌, List, [], ap, sym, refl}
 use Rattle.evac_model.specs.declared.device_journal.DeviceAction.{DeviceAction}
-use Rattle.evac_model.specs.declared.names.PageNo.{PageNo}
 use Rattle.evac_model.specs.declared.scenario.Scenario.{Scenario}
 use Rattle.evac_model.specs.HostCommands.{blocks_of}
 use Rattle.core_state.specs.declared.opening.Opening.{Opening}
@@ -9,9 +7,9 @@ use Rattle.core_state.specs.declared.snapshot.Snapshot.{Snapshot}
 use Rattle.core_actors.specs.Owners.{OwnerState}
 use Rattle.space.specs.JournaledSpace.{JournaledSpace}
 use Rattle.replay.specs.HostSeats.{HostSoFar}
-use Rattle.replay.specs.Machine.{Setting, Machine}
+use Rattle.replay.specs.Machine.{Machine}
 use Rattle.replay.specs.RunningInside.{machine_of}
-use Rattle.replay.specs.Runs.{opening, setting, machine_at_start, owners_from}
+use Rattle.replay.specs.Runs.{opening, machine_at_start}
 use Rattle.replay.specs.Seats.{setting_of}
 use Rattle.replay.proofs.Playing.{kept_at_start, quiet_at_start}
 use Rattle.replay.proofs.replay.joined.Goals as goal

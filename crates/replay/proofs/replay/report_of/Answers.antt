@@ -1,4 +1,4 @@
-use Rattle.std.proofs.Common.{◌≡◌, ◌+◌, ◌<◌, ◌∙◌, ℕ, List, IsSome, Option, Some, length, get_or, slice_get, refl, sym, ap, subst, arith}
+use Rattle.std.proofs.Common.{◌≡◌, ◌+◌, ◌<◌, ◌∙◌, ℕ, List, IsSome, Some, length, get_or, slice_get, refl, sym, ap, subst, arith}
 use Rattle.evac_model.specs.declared.entry.Entry.{Entry}
 use Rattle.evac_model.specs.declared.host.HostCommand.{HostCommand}
 use Rattle.evac_model.specs.declared.host.HostLine.{HostLine}
@@ -10,9 +10,8 @@ use Rattle.core_state.specs.declared.view.View.{View}
 use Rattle.core_state.specs.Histories.{IsHistoryOf}
 use Rattle.core_state.specs.Pages.{entry_with}
 use Rattle.core_state.specs.Words.{next_ticket_of}
-use Rattle.report.specs.declared.report.Report.{Report}
 use Rattle.replay.specs.Machine.{Setting, Run, device_at}
-use Rattle.replay.specs.Runs.{opening, setting, block_list, shown_below, AllEnded, IsReportAfter}
+use Rattle.replay.specs.Runs.{opening, block_list, shown_below, AllEnded, IsReportAfter}
 use Rattle.replay.specs.RunningInside.{machine_of}
 use Rattle.replay.specs.Shown.{MapsInside}
 use Rattle.replay.proofs.Left.{each_ticket, maps_inside}

@@ -1,4 +1,4 @@
-use Rattle.std.proofs.Common.{◌≡◌, ◌+◌, ◌∙◌, ℕ, length, sym, ap, arith}
+use Rattle.std.proofs.Common.{◌≡◌, ◌+◌, ◌∙◌, length, sym, ap, arith}
 use Rattle.replay.specs.HostSeats.{host_scene}
 use Rattle.replay.specs.Machine.{Setting, Machine, Run, HostScene, free_seat, unplugged_seat}
 use Rattle.replay.specs.RunningInside.{machine_of}
