@@ -1,3 +1,4 @@
 pub mod CommandWords
 pub mod Statuses
 pub mod Inputs
+pub mod States
