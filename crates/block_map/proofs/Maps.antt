@@ -1,16 +1,16 @@
 -- What contracts see of a map's words.
-use Rattle.std.proofs.Common.{◌≡◌, ℕ, ◌+◌, ◌*◌, ◌<◌, ◌≤◌, Bool, true, false, not, ◌&&◌, ◌||◌, List, length, replicate, sym, ap, subst, ◌∙◌, arith, inl, inr, lit<, IsTrue}
+use Rattle.std.proofs.Common.{◌≡◌, ℕ, ◌+◌, ◌*◌, ◌<◌, ◌≤◌, Bool, true, false, not, ◌&&◌, ◌||◌, List, length, replicate, sym, ap, subst, ◌∙◌, arith, inl, inr, IsTrue}
 use Rattle.std.specs.List.{range_with_len}
-use Rattle.std.proofs.Math.Nat.{pow-le-pow_right}
 use Rattle.std.proofs.lemmas.Bool.{cases_lt}
 use Rattle.std.proofs.lemmas.Nat.{mul-le}
 use Rattle.evac_model.specs.Geometry.{Sizes, IsWithinLimits, block_bytes}
-use Rattle.evac_model.specs.GeometryLimits.{IsPowerTo512}
 use Rattle.evac_model.specs.Numbers.{with_range, without_range, IsRisingBelow, numbers_where, is_in, is_between}
 use Rattle.block_map.specs.Blocks.{Blocks, IsAllPlugged, IsNonePlugged}
 use Rattle.block_map.specs.Bits.{has_bit, AreAllSet, AreNoneSet}
 use Rattle.block_map.specs.MapInside.{IsKept}
+use Rattle.evac_model.proofs.Bounds.{power_to_512_most}
 use Rattle.evac_model.proofs.Ranges.{between_inside, between_above}
+use Rattle.evac_model.proofs.Unions.{with_range-below, without_range-numbers}
 use Rattle.evac_model.proofs.Numbers.{numbers_agree, is_in-numbers_where, is_in-numbers_where_past, length-numbers_where, numbers_where-front, numbers_where-none}
 use Rattle.block_map.proofs.Words.{has_bit-replicate}
 
@@ -30,15 +30,18 @@ pub is_in-value_past : (s : Sizes) (test : ℕ → Bool) (v : Blocks) → value_
 is_in-value_past s test v e b h = ap (λ (x : Blocks). is_in b x.plugged) (sym e) ∙ is_in-numbers_where_past test s.managed b h
 
 -- the bits of a range set, and cleared
-pub value_with : (s : Sizes) (test : ℕ → Bool) (v : Blocks) → value_of s test ≡ v → (after : ℕ → Bool) (first n : ℕ) → ((k : ℕ) → after k ≡ (test k || is_between first (first + n) k)) → numbers_where after s.managed ≡ with_range first n v.sizes.managed v.plugged
-value_with s test v e after first n bits =
-    let P : Blocks → Type 0 = λ (x : Blocks). numbers_where after s.managed ≡ with_range first n x.sizes.managed x.plugged in
-    subst P e (numbers_agree after (λ b. is_in b (numbers_where test s.managed) || is_between first (first + n) b) s.managed (λ b h. bits b ∙ ap (λ (t : Bool). t || is_between first (first + n) b) (sym (is_in-numbers_where test s.managed b h))))
+pub value_with : (s : Sizes) (test : ℕ → Bool) (v : Blocks) → value_of s test ≡ v → (after : ℕ → Bool) (first n : ℕ) → first + n ≤ v.sizes.managed → ((k : ℕ) → after k ≡ (test k || is_between first (first + n) k)) → numbers_where after s.managed ≡ with_range first n v.plugged
+value_with s test v e after first n inside bits =
+    let P : Blocks → Type 0 = λ (x : Blocks). first + n ≤ x.sizes.managed → numbers_where after s.managed ≡ with_range first n x.plugged in
+    let with : P (value_of s test) = λ h.
+    numbers_agree after (λ b. is_in b (numbers_where test s.managed) || is_between first (first + n) b) s.managed (λ b l. bits b ∙ ap (λ (t : Bool). t || is_between first (first + n) b) (sym (is_in-numbers_where test s.managed b l)))
+    ∙ sym (with_range-below first n s.managed (numbers_where test s.managed) (is_in-numbers_where_past test s.managed) h) in
+    subst P e with inside
 
-pub value_without : (s : Sizes) (test : ℕ → Bool) (v : Blocks) → value_of s test ≡ v → (after : ℕ → Bool) (first n : ℕ) → ((k : ℕ) → after k ≡ (test k && not (is_between first (first + n) k))) → numbers_where after s.managed ≡ without_range first n v.sizes.managed v.plugged
+pub value_without : (s : Sizes) (test : ℕ → Bool) (v : Blocks) → value_of s test ≡ v → (after : ℕ → Bool) (first n : ℕ) → ((k : ℕ) → after k ≡ (test k && not (is_between first (first + n) k))) → numbers_where after s.managed ≡ without_range first n v.plugged
 value_without s test v e after first n bits =
-    let P : Blocks → Type 0 = λ (x : Blocks). numbers_where after s.managed ≡ without_range first n x.sizes.managed x.plugged in
-    subst P e (numbers_agree after (λ b. is_in b (numbers_where test s.managed) && not (is_between first (first + n) b)) s.managed (λ b h. bits b ∙ ap (λ (t : Bool). t && not (is_between first (first + n) b)) (sym (is_in-numbers_where test s.managed b h))))
+    let P : Blocks → Type 0 = λ (x : Blocks). numbers_where after s.managed ≡ without_range first n x.plugged in
+    subst P e (numbers_agree after (λ b. test b && not (is_between first (first + n) b)) s.managed (λ b l. bits b) ∙ sym (without_range-numbers test first n s.managed))
 
 -- the first bits set in words of zeros
 pub start_plugged : (before words : List ℕ) (size plugged managed : ℕ) → before ≡ replicate size 0 → plugged ≤ managed → ((k : ℕ) → has_bit words k ≡ (has_bit before k || is_between 0 plugged k)) → numbers_where (has_bit words) managed ≡ range_with_len 0 plugged
@@ -63,11 +66,8 @@ count_more_few s words before after count added k b e =
     let same : length (numbers_where (has_bit before) s.managed) ≡ length (numbers_where (has_bit words) s.managed) = ap (λ (ws : List ℕ). length (numbers_where (has_bit ws) s.managed)) b in
     omega (arith, k.counted, e, same, length-numbers_where (has_bit after) s.managed, k.within.managed.1)
 
-power_le : (n : ℕ) → IsPowerTo512 n → n ≤ 512
-power_le n p = omega (arith, p.2, pow-le-pow_right {n = 2} (lit< tt) {i = p.0} {j = 9} p.1)
-
 pub block_bytes_le : (s : Sizes) → IsWithinLimits s → block_bytes s ≤ 2097152
-block_bytes_le s w = mul-le (s.cells * 8) s.block 4096 512 (omega (arith, power_le s.cells w.cells)) (power_le s.block w.block)
+block_bytes_le s w = mul-le (s.cells * 8) s.block 4096 512 (omega (arith, power_to_512_most s.cells w.cells)) (power_to_512_most s.block w.block)
 
 -- what a range is
 range_all : (s : Sizes) (words : List ℕ) (v : Blocks) → value_of s (has_bit words) ≡ v → (first n : ℕ) → 0 < n → AreAllSet s.managed first n words → IsAllPlugged first n v.plugged × ¬ IsNonePlugged first n v.plugged

@@ -74,7 +74,7 @@ impl BlockMap {
     pub fn set(&mut self, first: BlockNo, n: u32)
         requires { first.0 + n ≤ self.old.sizes.managed }
         ensures sizes { self.new.sizes ≡ self.old.sizes }
-        ensures plugged { self.new.plugged ≡ with_range first.0 n self.old.sizes.managed self.old.plugged }
+        ensures plugged { self.new.plugged ≡ with_range first.0 n self.old.plugged }
     {
         let added = set_bits(&mut self.words, first.0, first.0 + n);
         self.count += added;
@@ -85,7 +85,7 @@ impl BlockMap {
     pub fn clear(&mut self, first: BlockNo, n: u32)
         requires { first.0 + n ≤ self.old.sizes.managed }
         ensures sizes { self.new.sizes ≡ self.old.sizes }
-        ensures plugged { self.new.plugged ≡ without_range first.0 n self.old.sizes.managed self.old.plugged }
+        ensures plugged { self.new.plugged ≡ without_range first.0 n self.old.plugged }
     {
         let removed = clear_bits(&mut self.words, first.0, first.0 + n);
         self.count -= removed;

@@ -1,6 +1,6 @@
 -- What the runs are once a block is withdrawn or restored.
-use Rattle.std.proofs.Common.{◌≡◌, ℕ, ◌+◌, ◌-◌, ◌*◌, ◌<◌, ◌≤◌, Bool, true, false, cond, eqb, ◌&&◌, ◌||◌, not, List, [], ◌∷◌, length, take, drop, replicate, refl, sym, ap, ◌∙◌, subst, arith, inl, inr, length-set}
-use Rattle.std.specs.List.{filter, range_with_len}
+use Rattle.std.proofs.Common.{◌≡◌, ℕ, ◌+◌, ◌-◌, ◌*◌, ◌<◌, ◌≤◌, Bool, true, false, cond, eqb, ◌&&◌, ◌||◌, not, List, length, take, drop, replicate, refl, sym, ap, ◌∙◌, subst, arith, inl, inr, length-set}
+use Rattle.std.specs.List.{range_with_len}
 use Rattle.std.proofs.Math.ListN.{set}
 use Rattle.std.proofs.lemmas.Bool.{cases_Bool, cond-true, both_ways}
 use Rattle.std.proofs.lemmas.List.{length-replicate, length-take-le, length-drop, set-get_or}
@@ -15,8 +15,9 @@ use Rattle.buddy.specs.RunsInside.{flag, is_free, is_put_aside, frames_of, HasRo
 use Rattle.buddy.proofs.Flags.{length-replaced}
 use Rattle.buddy.proofs.Places.{block_within, frames_split}
 use Rattle.buddy.proofs.FrameFlags.{between_facts, cond_agree, flag-replaced, flag-none, flag-run, flag-set, free_in_managed, room_with, managed_with, frames_of_block, put_aside-set}
-use Rattle.buddy.proofs.FrameValues.{some_frames}
 use Rattle.buddy.proofs.Giving.{flags_set}
+use Rattle.evac_model.proofs.Bounds.{block_some}
+use Rattle.evac_model.proofs.Filters.{filter-filter}
 
 -- a managed block's frames are a range
 block_range : (s : Sizes) (b m k : ℕ) → s.block ≡ m → is_between (s.boot * s.block + b * s.block) (s.boot * s.block + b * s.block + m) k ≡ is_frame_of s b k
@@ -96,7 +97,7 @@ none_left false x f p h y = h y
 
 pub aside_kept : (s : Sizes) (boot managed managed' : Part) (aside aside' withdrawn : List Bool) (b : ℕ) → IsKept s boot managed aside withdrawn → b < s.managed → AreMoved s boot managed managed' aside aside' b (λ k. false) (is_free s boot.free managed.free) → IsKept s boot managed' aside' (set withdrawn b true)
 aside_kept s boot managed managed' aside aside' withdrawn b h l a =
-    let some = some_frames s h.within in
+    let some = block_some s h.within in
     let inside : b < length withdrawn = omega (arith, l, h.withdrawn_length) in
     record {
       within = h.within;
@@ -114,7 +115,7 @@ aside_kept s boot managed managed' aside aside' withdrawn b h l a =
 
 pub back_kept : (s : Sizes) (boot managed managed' : Part) (aside aside' withdrawn : List Bool) (b : ℕ) → IsKept s boot managed aside withdrawn → b < s.managed → AreMoved s boot managed managed' aside aside' b (flag aside) (λ k. false) → IsKept s boot managed' aside' (set withdrawn b false)
 back_kept s boot managed managed' aside aside' withdrawn b h l a =
-    let some = some_frames s h.within in
+    let some = block_some s h.within in
     let inside : b < length withdrawn = omega (arith, l, h.withdrawn_length) in
     record {
       within = h.within;
@@ -160,25 +161,16 @@ with_one false false = refl
 none_aside : (s : Sizes) (boot managed : Part) (aside withdrawn : List Bool) (b k : ℕ) → IsKept s boot managed aside withdrawn → b < s.managed → flag withdrawn b ≡ false → is_frame_of s b k ≡ true → flag aside k ≡ false
 none_aside s boot managed aside withdrawn b k h l n y =
     elim (cases_Bool (flag aside k)) [
-      | inl t ↦ absurd (both_ways (is_put_aside s withdrawn k) (block_flag s withdrawn b k (some_frames s h.within) (omega (arith, l, h.withdrawn_length)) y ∙ n) (h.all_withdrawn k t))
+      | inl t ↦ absurd (both_ways (is_put_aside s withdrawn k) (block_flag s withdrawn b k (block_some s h.within) (omega (arith, l, h.withdrawn_length)) y ∙ n) (h.all_withdrawn k t))
       | inr f ↦ f
     ]
 
 none_free_there : (s : Sizes) (boot managed : Part) (aside withdrawn : List Bool) (b k : ℕ) → IsKept s boot managed aside withdrawn → b < s.managed → flag withdrawn b ≡ true → is_frame_of s b k ≡ true → is_free s boot.free managed.free k ≡ false
 none_free_there s boot managed aside withdrawn b k h l n y =
     elim (cases_Bool (is_free s boot.free managed.free k)) [
-      | inl t ↦ absurd (both_ways (is_put_aside s withdrawn k) (h.none_free k t) (block_flag s withdrawn b k (some_frames s h.within) (omega (arith, l, h.withdrawn_length)) y ∙ n))
+      | inl t ↦ absurd (both_ways (is_put_aside s withdrawn k) (h.none_free k t) (block_flag s withdrawn b k (block_some s h.within) (omega (arith, l, h.withdrawn_length)) y ∙ n))
       | inr f ↦ f
     ]
-
--- numbers that pass two tests
-filter_twice : (p q : ℕ → Bool) (xs : List ℕ) → filter p (filter q xs) ≡ filter (λ x. q x && p x) xs
-filter_twice p q [] = refl
-filter_twice p q (x ∷ xs) = step (q x) (p x) (filter_twice p q xs)
-  where
-    step : (a b : Bool) → filter p (filter q xs) ≡ filter (λ x. q x && p x) xs → filter p (cond a (x ∷ filter q xs) (filter q xs)) ≡ cond (a && p x) (x ∷ filter (λ x. q x && p x) xs) (filter (λ x. q x && p x) xs)
-    step true b e = ap (λ (ys : List ℕ). cond (p x) (x ∷ ys) ys) e
-    step false b e = e
 
 pub aside_value : (s : Sizes) (online : Kind) (boot managed managed' : Part) (aside aside' withdrawn : List Bool) (old : FreeFrames) (b : ℕ) → IsKept s boot managed aside withdrawn → frames_of s online boot managed aside withdrawn ≡ old → b < s.managed → flag withdrawn b ≡ false → AreMoved s boot managed managed' aside aside' b (λ k. false) (is_free s boot.free managed.free) → frames_of s online boot managed' aside' (set withdrawn b true) ≡ with_withdrawn b old
 aside_value s online boot managed managed' aside aside' withdrawn old b h view l n a =
@@ -213,7 +205,7 @@ back_value s online boot managed managed' aside aside' withdrawn old b h view l 
     let blocks_now : numbers_where (flag (set withdrawn b false)) s.managed ≡ without_block b (numbers_where (flag withdrawn) s.managed) =
     numbers_agree (flag (set withdrawn b false)) (λ x. flag withdrawn x && not (eqb x b)) s.managed
     (λ x m. flag-set withdrawn b false x (omega (arith, l, h.withdrawn_length)) ∙ without (eqb x b) (flag withdrawn x))
-    ∙ sym (filter_twice (λ x. not (eqb x b)) (flag withdrawn) (range_with_len 0 s.managed)) in
+    ∙ sym (filter-filter (λ x. not (eqb x b)) (flag withdrawn) (range_with_len 0 s.managed)) in
     ap (λ (xs : List ℕ). value xs (numbers_where (flag aside') (frame_count s)) (numbers_where (flag (set withdrawn b false)) s.managed)) free_now
     ∙ ap (λ (xs : List ℕ). value (numbers_where (λ k. is_in k (numbers_where (is_free s boot.free managed.free) (frame_count s)) || (is_in k (numbers_where (flag aside) (frame_count s)) && is_frame_of s b k)) (frame_count s)) xs (numbers_where (flag (set withdrawn b false)) s.managed)) aside_now
     ∙ ap (λ (xs : List ℕ). value (numbers_where (λ k. is_in k (numbers_where (is_free s boot.free managed.free) (frame_count s)) || (is_in k (numbers_where (flag aside) (frame_count s)) && is_frame_of s b k)) (frame_count s)) (numbers_where (λ k. is_in k (numbers_where (flag aside) (frame_count s)) && not (is_frame_of s b k)) (frame_count s)) xs) blocks_now

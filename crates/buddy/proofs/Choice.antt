@@ -16,6 +16,7 @@ use Rattle.buddy.proofs.FrameRuns.{IsFreeRunOf, IsWindow, free_from_window, free
 use Rattle.buddy.proofs.LowestPlaces.{IsPlace, lowest_least}
 use Rattle.buddy.proofs.MachineRuns.{free_in, run_below, free_from_spec, free_into_spec, part_window, fits_boot, fits_managed, first_fitting, blocks_aligned}
 use Rattle.buddy.proofs.Least.{IsLeast, least_same, least_like, least_or, least_add, least_if, first-flat_map, first_choice_agree}
+use Rattle.buddy.proofs.Places.{frames_split}
 
 -- the lowest free run of a part
 pub part_least : (s : Sizes) (free : List ℕ) (top base count order wanted : ℕ) → base % 2 ^ top ≡ 0 → count % 2 ^ top ≡ 0 → base + count ≤ frame_count s → top ≤ order → count ≤ 2 ^ order → IsLeast (λ x. (x < count) × IsFreeRunOf top (free_in s free) wanted (base + x)) (lowest_run top order (part_free free base count order) wanted)
@@ -28,15 +29,11 @@ part_least s free top base count order wanted base_at count_at inside l small =
     (λ x p. let e : x ≡ 0 + x = omega arith in (omega (arith, p.0, small), subst (λ (y : ℕ). IsFreeRunOf top part wanted y) e (free_into_window top test part base count wanted x w p.0 p.1)))
     (lowest_least top part order 0 wanted (zero-mod (2 ^ order)) (λ longer. omega (arith, longer.order, l)))
 
--- frames of boot blocks, and of managed ones behind them
-block_frames : (s : Sizes) → frame_count s ≡ s.boot * s.block + s.managed * s.block
-block_frames s = omega arith
-
 -- the lowest of an order, in both parts
 pub choice_least : (s : Sizes) (online kind : Kind) (free : List ℕ) (top ob om wanted : ℕ) → s.block ≡ 2 ^ top → top ≤ ob → s.boot * s.block ≤ 2 ^ ob → top ≤ om → s.managed * s.block ≤ 2 ^ om → IsLeast (IsRunFor s online kind free wanted) (lowest_choice s online kind top ob om (part_free free 0 (s.boot * s.block) ob) (part_free free (s.boot * s.block) (s.managed * s.block) om) wanted)
 choice_least s online kind free top ob om wanted e lb sb lm sm =
     let test : ℕ → Bool = free_in s free in
-    let all : frame_count s ≡ s.boot * s.block + s.managed * s.block = block_frames s in
+    let all : frame_count s ≡ s.boot * s.block + s.managed * s.block = frames_split s in
     let boot : Option ℕ = lowest_run top ob (part_free free 0 (s.boot * s.block) ob) wanted in
     let managed : Option ℕ = lowest_run top om (part_free free (s.boot * s.block) (s.managed * s.block) om) wanted in
     let P : ℕ → Type 0 = λ x. (x < s.boot * s.block) × IsFreeRunOf top test wanted (0 + x) in

@@ -2,22 +2,19 @@
 use Rattle.std.proofs.Common.{◌≡◌, ℕ, zero, suc, ◌+◌, ◌-◌, ◌*◌, ◌/◌, ◌^◌, ◌<◌, ◌≤◌, Bool, true, false, cond, leb, ◌&&◌, List, ◌∷◌, length, refl, sym, ap, ◌∙◌, subst, arith, inl, inr}
 use Rattle.std.specs.List.{filter, range_with_len, list_any}
 use Rattle.std.proofs.lemmas.Bool.{cases_lt, cases_eq, cases_Bool, and_left, and_right, and_from, or_right, le-leb, lt-leb, both_ways, false_from_ne_true}
-use Rattle.std.proofs.lemmas.Nat.{pow_pos}
 use Rattle.std.proofs.lemmas.List.{get_or_past}
 use Rattle.evac_model.specs.declared.names.Kind.{Kind}
-use Rattle.evac_model.specs.Geometry.{Sizes, frame_count, IsWithinLimits}
-use Rattle.evac_model.specs.Numbers.{numbers_where, is_in, IsRisingBelow}
+use Rattle.evac_model.specs.Geometry.{Sizes, frame_count}
+use Rattle.evac_model.specs.Numbers.{numbers_where, is_in}
 use Rattle.evac_model.specs.SpaceJournal.{is_frame_of, is_frame_in}
-use Rattle.evac_model.proofs.Numbers.{numbers_agree, is_in-numbers_where, is_in-numbers_where_past}
+use Rattle.evac_model.proofs.Numbers.{is_in-numbers_where, is_in-numbers_where_past, numbers_rising}
 use Rattle.evac_model.proofs.Ranges.{between_inside, between_below}
 use Rattle.buddy.specs.FreeFrames.{FreeFrames, AreApart}
 use Rattle.buddy.specs.Parts.{Part}
 use Rattle.buddy.specs.RunsInside.{flag, is_free, is_put_aside, frames_of, IsKept}
 use Rattle.buddy.proofs.Places.{in_block, block_holds, RunFacts, run_order, one_block, run_in_boot, managed_multiple}
 use Rattle.buddy.proofs.FrameFlags.{between_facts, frames_of_block}
-
-pub some_frames : (s : Sizes) → IsWithinLimits s → 0 < s.block
-some_frames s w = omega (arith, pow_pos w.block.0, w.block.2)
+use Rattle.evac_model.proofs.Bounds.{block_some}
 
 -- a test of one of the numbers that pass, and of none of them
 any_from : (p q : ℕ → Bool) (a n b : ℕ) → a ≤ b → b < a + n → q b ≡ true → p b ≡ true → list_any p (filter q (range_with_len a n)) ≡ true
@@ -103,18 +100,15 @@ kept_in p n k e =
       | inr g ↦ absurd (both_ways (is_in k (numbers_where p n)) (is_in-numbers_where_past p n k g) e)
     ]
 
-pub rising : (p : ℕ → Bool) (n : ℕ) → IsRisingBelow n (numbers_where p n)
-rising p n = numbers_agree p (λ b. is_in b (numbers_where p n)) n (λ b h. sym (is_in-numbers_where p n b h))
-
 -- what is kept says that the frames are apart
 apart_inside : (s : Sizes) (online : Kind) (boot managed : Part) (aside withdrawn : List Bool) → IsKept s boot managed aside withdrawn → AreApart (frames_of s online boot managed aside withdrawn)
 apart_inside s online boot managed aside withdrawn h = record {
   within = h.within;
-  free = rising (is_free s boot.free managed.free) (frame_count s);
-  aside = rising (flag aside) (frame_count s);
-  withdrawn = rising (flag withdrawn) s.managed;
-  none_free = λ k e. frame_in s withdrawn k (some_frames s h.within) h.withdrawn_length ∙ h.none_free k (kept_in (is_free s boot.free managed.free) (frame_count s) k e).1;
-  all_withdrawn = λ k e. frame_in s withdrawn k (some_frames s h.within) h.withdrawn_length ∙ h.all_withdrawn k (kept_in (flag aside) (frame_count s) k e).1;
+  free = numbers_rising (is_free s boot.free managed.free) (frame_count s);
+  aside = numbers_rising (flag aside) (frame_count s);
+  withdrawn = numbers_rising (flag withdrawn) s.managed;
+  none_free = λ k e. frame_in s withdrawn k (block_some s h.within) h.withdrawn_length ∙ h.none_free k (kept_in (is_free s boot.free managed.free) (frame_count s) k e).1;
+  all_withdrawn = λ k e. frame_in s withdrawn k (block_some s h.within) h.withdrawn_length ∙ h.all_withdrawn k (kept_in (flag aside) (frame_count s) k e).1;
 }
 
 pub are_apart : (s : Sizes) (online : Kind) (boot managed : Part) (aside withdrawn : List Bool) (old : FreeFrames) → IsKept s boot managed aside withdrawn → frames_of s online boot managed aside withdrawn ≡ old → AreApart old

@@ -13,8 +13,9 @@ use Rattle.buddy.specs.RunsInside.{flag, is_free, is_put_aside, frames_of, IsKep
 use Rattle.buddy.proofs.Flags.{length-replaced}
 use Rattle.buddy.proofs.Places.{RunFacts, run_in_boot, run_in_managed, frames_split}
 use Rattle.buddy.proofs.FrameFlags.{between_facts, cond_agree, flag-replaced, flag-replicate, flag-none}
-use Rattle.buddy.proofs.FrameValues.{some_frames, frame_in, put_aside-run}
+use Rattle.buddy.proofs.FrameValues.{frame_in, put_aside-run}
 use Rattle.buddy.proofs.Setting.{set_frames}
+use Rattle.evac_model.proofs.Bounds.{block_some}
 
 -- at the start no frame is free or kept aside, and no block withdrawn
 pub start_value : (s : Sizes) (online : Kind) (boot managed : Part) (aside withdrawn : List Bool) (a b c d : ℕ) → boot.free ≡ replicate a false → managed.free ≡ replicate b false → aside ≡ replicate c false → withdrawn ≡ replicate d false → frames_of s online boot managed aside withdrawn ≡ no_frames s online
@@ -93,13 +94,13 @@ given_aside s online boot managed aside withdrawn now old order first h view f i
     (numbers_agree (is_free s boot.free managed.free) (λ k. is_in k (numbers_where (is_free s boot.free managed.free) (frame_count s)) || (is_between first (first + 2 ^ order) k && not (is_frame_in s (numbers_where (flag withdrawn) s.managed) k))) (frame_count s)
     (λ k l. sym (is_in-numbers_where (is_free s boot.free managed.free) (frame_count s) k l)
     ∙ adds_nothing (is_in k (numbers_where (is_free s boot.free managed.free) (frame_count s))) (is_between first (first + 2 ^ order) k) (not (is_frame_in s (numbers_where (flag withdrawn) s.managed) k))
-    (λ y. ap not (frame_in s withdrawn k (some_frames s h.within) h.withdrawn_length ∙ in_same s withdrawn order first boot.top k true f h.boot_part.block is y))))
+    (λ y. ap not (frame_in s withdrawn k (block_some s h.within) h.withdrawn_length ∙ in_same s withdrawn order first boot.top k true f h.boot_part.block is y))))
     ∙ ap (λ (xs : List ℕ). value (numbers_where (λ k. is_in k (numbers_where (is_free s boot.free managed.free) (frame_count s)) || (is_between first (first + 2 ^ order) k && not (is_frame_in s (numbers_where (flag withdrawn) s.managed) k))) (frame_count s)) xs)
     (numbers_agree (flag now) (λ k. is_in k (numbers_where (flag aside) (frame_count s)) || (is_between first (first + 2 ^ order) k && is_frame_in s (numbers_where (flag withdrawn) s.managed) k)) (frame_count s)
     (λ k l. ap (λ (xs : List Bool). flag xs k) e ∙ flags_set first (2 ^ order) true aside k inside
     ∙ ap (λ (b : Bool). cond (is_between first (first + 2 ^ order) k) true b) (sym (is_in-numbers_where (flag aside) (frame_count s) k l))
     ∙ adds_given (is_in k (numbers_where (flag aside) (frame_count s))) (is_between first (first + 2 ^ order) k) (is_frame_in s (numbers_where (flag withdrawn) s.managed) k)
-    (λ y. frame_in s withdrawn k (some_frames s h.within) h.withdrawn_length ∙ in_same s withdrawn order first boot.top k true f h.boot_part.block is y)))
+    (λ y. frame_in s withdrawn k (block_some s h.within) h.withdrawn_length ∙ in_same s withdrawn order first boot.top k true f h.boot_part.block is y)))
     ∙ ap (with_frames (is_between first (first + 2 ^ order))) view
 
 -- frames of other blocks are given

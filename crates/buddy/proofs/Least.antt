@@ -1,5 +1,5 @@
 -- The least number of a kind, if there is one.
-use Rattle.std.proofs.Common.{◌≡◌, ℕ, zero, suc, ◌+◌, ◌<◌, ◌≤◌, Bool, true, false, cond, ◌&&◌, List, [], ◌∷◌, ◌++◌, Option, None, Some, refl, sym, ap, ◌∙◌, arith, inl, inr, ◌⊎◌}
+use Rattle.std.proofs.Common.{◌≡◌, ℕ, zero, suc, ◌+◌, ◌<◌, ◌≤◌, Bool, true, false, cond, List, [], ◌∷◌, ◌++◌, Option, None, Some, refl, sym, ap, ◌∙◌, arith, inl, inr, ◌⊎◌}
 use Rattle.std.specs.List.{filter, flat_map, range_with_len, slice_get}
 use Rattle.std.specs.Option.{option_or, option_map}
 use Rattle.std.proofs.lemmas.List.Elements.{filter-append}
@@ -57,16 +57,6 @@ first_here q a n false xs e h =
 pub first_of_range : (q : ℕ → Bool) (a n : ℕ) → IsLeast (λ x. (a ≤ x) × (x < a + n) × (q x ≡ true)) (slice_get (filter q (range_with_len a n)) 0)
 first_of_range q a zero = λ x p. omega (arith, p.0, p.1)
 first_of_range q a (suc n) = first_here q a n (q a) (filter q (range_with_len (a + 1) n)) refl (first_of_range q (a + 1) n)
-
--- two filters are one
-filter_cond : (p : ℕ → Bool) (t : Bool) (x : ℕ) (xs : List ℕ) → filter p (cond t (x ∷ xs) xs) ≡ cond (t && p x) (x ∷ filter p xs) (filter p xs)
-filter_cond p true x xs = refl
-filter_cond p false x xs = refl
-
-pub filter-filter : (p q : ℕ → Bool) (xs : List ℕ) → filter p (filter q xs) ≡ filter (λ x. q x && p x) xs
-filter-filter p q [] = refl
-filter-filter p q (x ∷ xs) =
-    filter_cond p (q x) x (filter q xs) ∙ ap (λ (ys : List ℕ). cond (q x && p x) (x ∷ ys) ys) (filter-filter p q xs)
 
 -- the first of lists joined
 first_append : (xs ys : List ℕ) → slice_get (xs ++ ys) 0 ≡ option_or (slice_get xs 0) (slice_get ys 0)

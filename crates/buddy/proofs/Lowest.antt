@@ -2,7 +2,7 @@
 use Rattle.std.proofs.Common.{◌≡◌, ◌≢◌, ℕ, zero, suc, ◌+◌, ◌-◌, ◌%◌, ◌^◌, ◌≤◌, ◌<◌, Bool, true, false, cond, eqb, leb, ◌&&◌, ◌||◌, List, ◌++◌, take, drop, Option, Some, None, bit_or, max, refl, sym, ap, ◌∙◌, subst, arith, inl, inr}
 use Rattle.std.specs.Int.{bit_at}
 use Rattle.std.specs.Option.{option_or, option_map, is_some}
-use Rattle.std.proofs.lemmas.Bool.{and_parts, and_left, and_right, cases_Bool, cases_eq, cond-true, cond-false, leb-true, eq-eqb, ne_eqb, eqb-true, false≢true, both_ways}
+use Rattle.std.proofs.lemmas.Bool.{and_parts, and_left, and_right, cases_Bool, cases_eq, cond-true, cond-false, leb-true, eq-eqb, ne_eqb, eqb-true}
 use Rattle.std.proofs.lemmas.Option.{none-some, same_Some, cond_some}
 use Rattle.std.proofs.lemmas.Nat.Bits.{bit_at_or, bit_at-zero, bit_at-pow_same, bit_at-pow_other, bit_at-lt}
 use Rattle.std.proofs.lemmas.List.{take_at, drop_at}
@@ -12,6 +12,7 @@ use Rattle.buddy.specs.TreeNode.{IsHalf}
 use Rattle.buddy.proofs.Powers.{pow_double, pow_multiple, multiple_add, order_inside}
 use Rattle.buddy.proofs.Orders.{orders_of-whole, orders_of-split}
 use Rattle.buddy.proofs.Nodes.{half_length, half_order, some_order}
+use Rattle.evac_model.proofs.Options.{none_from_test, some_from_test}
 
 pub in_part : (t n : ℕ) (free : List Bool) → is_whole t (suc n) free ≡ true → (w : ℕ) → lowest_run t (suc n) free w ≡ cond (eqb w (suc n)) (Some 0) None
 in_part t n free h w =
@@ -131,26 +132,18 @@ has_order t (suc k) free w =
           ∙ ap (λ (m : ℕ). eqb (bit_at m w) 1) (sym (orders_of-split t k free n))
     ]
 
-not_some : (o : Option ℕ) → is_some o ≡ false → o ≡ None
-not_some (Some x) h = absurd (both_ways true h refl)
-not_some None h = refl
-
 -- a bit that is clear, and one that is set
 pub none_there : (t n orders : ℕ) (free : List Bool) (w : ℕ) → orders ≡ orders_of t n free → bit_at orders w ≡ 0 → lowest_run t n free w ≡ None
 none_there t n orders free w e z =
-    not_some (lowest_run t n free w) (has_order t n free w ∙ ap (λ (m : ℕ). eqb (bit_at m w) 1) (sym e) ∙ ap (λ (x : ℕ). eqb x 1) z)
+    none_from_test (lowest_run t n free w) (has_order t n free w ∙ ap (λ (m : ℕ). eqb (bit_at m w) 1) (sym e) ∙ ap (λ (x : ℕ). eqb x 1) z)
 
 some_there : (t n orders : ℕ) (free : List Bool) (w : ℕ) → orders ≡ orders_of t n free → bit_at orders w ≢ 0 → is_some (lowest_run t n free w) ≡ true
 some_there t n orders free w e nz =
     has_order t n free w ∙ ap (λ (m : ℕ). eqb (bit_at m w) 1) (sym e) ∙ eq-eqb (bit_at orders w) 1 (omega (arith, bit_at-lt orders w, nz))
 
-some_place : (o : Option ℕ) → is_some o ≡ true → (place : ℕ) × (o ≡ Some place)
-some_place (Some x) h = (x, refl)
-some_place None h = absurd (false≢true h)
-
 pub own_there : (t n orders : ℕ) (free : List Bool) (w : ℕ) → orders ≡ orders_of t n free → bit_at orders w ≢ 0 → w ≡ n → Some 0 ≡ lowest_run t n free w
 own_there t n orders free w e nz same =
-    let there = some_place (lowest_run t n free n) (some_there t n orders free n e (λ z. nz (ap (bit_at orders) same ∙ z))) in
+    let there = some_from_test (lowest_run t n free n) (some_there t n orders free n e (λ z. nz (ap (bit_at orders) same ∙ z))) in
     sym (ap (lowest_run t n free) same ∙ lowest_run-own t n free there.0 there.1)
 
 -- frames that aren't alike, where an order below the part's own is there

@@ -5,7 +5,7 @@ use Rattle.std.specs.List.{range_with_len, list_all}
 use Rattle.std.specs.Option.{option_or, option_map}
 use Rattle.std.proofs.Math.Nat.{mod_self}
 use Rattle.std.proofs.Math.Dec.{leb}
-use Rattle.std.proofs.lemmas.Bool.{and_parts, and_from, cases_lt, cases_eq, leb-true, le-leb, eqb-true, eqb-false}
+use Rattle.std.proofs.lemmas.Bool.{and_parts, and_from, cases_lt, leb-true, le-leb, eqb-true, eqb-false}
 use Rattle.std.proofs.lemmas.List.{drop-map}
 use Rattle.std.proofs.lemmas.List.FromFn.{take-map-range_with_len}
 use Rattle.std.proofs.lemmas.List.Folds.{list_all-map}
@@ -14,21 +14,8 @@ use Rattle.buddy.specs.Parts.{is_whole, lowest_run}
 use Rattle.buddy.proofs.Aligned.{aligned_add, aligned_less, floor_same}
 use Rattle.buddy.proofs.FrameRuns.{IsRunOf, IsFreeRunOf, run_part, one_run}
 use Rattle.buddy.proofs.Least.{IsLeast, least_or, least_add}
-
--- all numbers of a range pass
-pub range_all : (p : ℕ → Bool) (a n : ℕ) → list_all p (range_with_len a n) ≡ true → (x : ℕ) → a ≤ x → x < a + n → p x ≡ true
-range_all p a zero e x f l = absurd (omega arith)
-range_all p a (suc n) e x f l =
-    let parts = and_parts (p a) (list_all p (range_with_len (a + 1) n)) e in
-    elim (cases_eq x a) [
-      | inl same ↦ ap p same ∙ parts.0
-      | inr other ↦ range_all p (a + 1) n parts.1 x (omega (arith, other)) (omega arith)
-    ]
-
-pub all_range : (p : ℕ → Bool) (a n : ℕ) → ((x : ℕ) → a ≤ x → x < a + n → p x ≡ true) → list_all p (range_with_len a n) ≡ true
-all_range p a zero h = refl
-all_range p a (suc n) h =
-    and_from (p a) (list_all p (range_with_len (a + 1) n)) (h a (omega arith) (omega arith)) (all_range p (a + 1) n (λ x f l. h x (omega arith) (omega arith)))
+use Rattle.evac_model.proofs.Ranges.{range-list_all, list_all-range}
+use Rattle.buddy.proofs.Powers.{pow_double}
 
 -- the frames of a part from a on
 abbrev pub frames_from : (ℕ → Bool) → (a order : ℕ) → List Bool
@@ -44,27 +31,24 @@ drop_range a (suc m) n (suc k) e =
     let at : a + 1 + m ≡ a + suc m = omega arith in
     drop_range (a + 1) m n k (omega (arith, e)) ∙ ap (λ (x : ℕ). range_with_len x n) at
 
-two_halves : (k : ℕ) → 2 ^ suc k ≡ 2 ^ k + 2 ^ k
-two_halves k = omega arith
-
 pub lower_half : (test : ℕ → Bool) (a k : ℕ) → take (2 ^ k) (frames_from test a (suc k)) ≡ frames_from test a k
-lower_half test a k = take-map-range_with_len test a (2 ^ suc k) (2 ^ k) (omega (arith, two_halves k))
+lower_half test a k = take-map-range_with_len test a (2 ^ suc k) (2 ^ k) (omega (arith, pow_double k))
 
 pub upper_half : (test : ℕ → Bool) (a k : ℕ) → drop (2 ^ k) (frames_from test a (suc k)) ≡ frames_from test (a + 2 ^ k) k
 upper_half test a k =
-    drop-map test (2 ^ k) (range_with_len a (2 ^ suc k)) ∙ ap (λ (xs : List ℕ). map test xs) (drop_range a (2 ^ k) (2 ^ k) (2 ^ suc k) (two_halves k))
+    drop-map test (2 ^ k) (range_with_len a (2 ^ suc k)) ∙ ap (λ (xs : List ℕ). map test xs) (drop_range a (2 ^ k) (2 ^ k) (2 ^ suc k) (pow_double k))
 
 -- a part is a free run as a whole just if its frames are a run
 whole_run : (top : ℕ) (test : ℕ → Bool) (order a : ℕ) → a % 2 ^ order ≡ 0 → is_whole top order (frames_from test a order) ≡ true → IsRunOf top test order a
 whole_run top test order a at e =
     let parts = and_parts (leb order top) (list_all (λ (b : Bool). b) (frames_from test a order)) e in
     let all : list_all test (range_with_len a (2 ^ order)) ≡ true = sym (list_all-map (λ (b : Bool). b) test (range_with_len a (2 ^ order))) ∙ parts.1 in
-    record { order = leb-true order top parts.0; aligned = at; free = range_all test a (2 ^ order) all }
+    record { order = leb-true order top parts.0; aligned = at; free = range-list_all test a (2 ^ order) all }
 
 run_whole : (top : ℕ) (test : ℕ → Bool) (order a : ℕ) → IsRunOf top test order a → is_whole top order (frames_from test a order) ≡ true
 run_whole top test order a r =
     and_from (leb order top) (list_all (λ (b : Bool). b) (frames_from test a order)) (le-leb order top r.order)
-    (list_all-map (λ (b : Bool). b) test (range_with_len a (2 ^ order)) ∙ all_range test a (2 ^ order) r.free)
+    (list_all-map (λ (b : Bool). b) test (range_with_len a (2 ^ order)) ∙ list_all-range test a (2 ^ order) r.free)
 
 -- no run of the next order round a part
 abbrev pub IsAlone : (top : ℕ) (test : ℕ → Bool) (order a : ℕ) → Type 0
@@ -107,15 +91,15 @@ join_least top test k a wanted low high l u =
     let R : ℕ → Type 0 = IsPlace top test (suc k) a wanted in
     least_or P Q R low (option_map (λ place. 2 ^ k + place) high)
     (λ x y p q. omega (arith, p.0, q.0))
-    (λ x p. (omega (arith, p.0, two_halves k), p.1))
+    (λ x p. (omega (arith, p.0, pow_double k), p.1))
     (λ x q. q.1)
     (λ x r. elim (cases_lt x (2 ^ k)) [ inl lower ↦ inl (lower, r.1) | inr higher ↦ inr (higher, r) ])
     l
     (least_add (2 ^ k) (IsPlace top test k (a + 2 ^ k) wanted) Q high
     (λ x p. let e : a + 2 ^ k + x ≡ a + (2 ^ k + x) = omega arith in
-    (omega arith, (omega (arith, p.0, two_halves k), subst (λ (y : ℕ). IsFreeRunOf top test wanted y) e p.1)))
+    (omega arith, (omega (arith, p.0, pow_double k), subst (λ (y : ℕ). IsFreeRunOf top test wanted y) e p.1)))
     (λ x q. let e : a + x ≡ a + 2 ^ k + (x - 2 ^ k) = omega (arith, q.0) in
-    (x - 2 ^ k, omega (arith, q.0), (omega (arith, q.0, q.1.0, two_halves k), subst (λ (y : ℕ). IsFreeRunOf top test wanted y) e q.1.1)))
+    (x - 2 ^ k, omega (arith, q.0), (omega (arith, q.0, q.1.0, pow_double k), subst (λ (y : ℕ). IsFreeRunOf top test wanted y) e q.1.1)))
     u)
 
 node_least : (top : ℕ) (test : ℕ → Bool) (k a wanted : ℕ) (low high : Option ℕ) → a % 2 ^ suc k ≡ 0 → IsAlone top test (suc k) a → (¬ IsRunOf top test (suc k) a → IsLeast (IsPlace top test k a wanted) low) → (¬ IsRunOf top test (suc k) a → IsLeast (IsPlace top test k (a + 2 ^ k) wanted) high) → (t : Bool) → is_whole top (suc k) (frames_from test a (suc k)) ≡ t → IsLeast (IsPlace top test (suc k) a wanted) (cond t (cond (wanted == suc k) (Some 0) None) (option_or low (option_map (λ place. 2 ^ k + place) high)))
@@ -131,7 +115,7 @@ lowest_least top test (suc k) a wanted at alone =
     let low_at : a % 2 ^ k ≡ 0 = aligned_less k (suc k) a (omega arith) at in
     let high_at : (a + 2 ^ k) % 2 ^ k ≡ 0 = aligned_add (2 ^ k) a (2 ^ k) low_at ∙ mod_self (2 ^ k) in
     let some : 0 < 2 ^ k = pow_pos k in
-    let two : 2 ^ suc k ≡ 2 ^ k + 2 ^ k = two_halves k in
+    let two : 2 ^ suc k ≡ 2 ^ k + 2 ^ k = pow_double k in
     node_least top test k a wanted
     (lowest_run top k (take (2 ^ k) (frames_from test a (suc k))) wanted)
     (lowest_run top k (drop (2 ^ k) (frames_from test a (suc k))) wanted)

@@ -15,8 +15,9 @@ use Rattle.evac_model.specs.FreeRuns.{fits, is_run, is_all_free, is_free_run, fr
 use Rattle.buddy.specs.Laws.{IsRunFor}
 use Rattle.buddy.proofs.Aligned.{next_multiple, aligned_less}
 use Rattle.buddy.proofs.FrameRuns.{IsRunOf, IsFreeRunOf, IsWindow}
-use Rattle.buddy.proofs.LowestPlaces.{range_all, all_range}
-use Rattle.buddy.proofs.Least.{IsLeast, least_like, first_of_range, filter-filter}
+use Rattle.buddy.proofs.Least.{IsLeast, least_like, first_of_range}
+use Rattle.evac_model.proofs.Filters.{filter-filter}
+use Rattle.evac_model.proofs.Ranges.{range-list_all, list_all-range}
 
 -- whether a frame is one of the machine's and free
 abbrev pub free_in : Sizes → List ℕ → ℕ → Bool
@@ -45,7 +46,7 @@ run_from_spec s free top k n e t =
       aligned = at;
       free = λ x f l.
           let lower : x < frame_count s = omega (arith, l, inside) in
-          and_from (nat_lt x (frame_count s)) (is_in x free) (lt-ltb x (frame_count s) lower) (range_all (λ frame. is_in frame free) n (2 ^ k) p.1 x f l);
+          and_from (nat_lt x (frame_count s)) (is_in x free) (lt-ltb x (frame_count s) lower) (range-list_all (λ frame. is_in frame free) n (2 ^ k) p.1 x f l);
     }
 
 pub run_into_spec : (s : Sizes) (free : List ℕ) (top k n : ℕ) → s.block ≡ 2 ^ top → IsRunOf top (free_in s free) k n → is_all_free s free k n ≡ true
@@ -56,7 +57,7 @@ run_into_spec s free top k n e r =
     (and_from (n % 2 ^ k == 0 && nat_le (2 ^ k) s.block) (nat_lt n (frame_count s))
     (and_from (n % 2 ^ k == 0) (nat_le (2 ^ k) s.block) (eq-eqb (n % 2 ^ k) 0 r.aligned) (le-leb (2 ^ k) s.block small))
     ((tells n (omega arith) (omega (arith, pow_pos k))).0))
-    (all_range (λ frame. is_in frame free) n (2 ^ k) (λ x f l. (tells x f l).1))
+    (list_all-range (λ frame. is_in frame free) n (2 ^ k) (λ x f l. (tells x f l).1))
 
 -- the same for free runs
 pub free_from_spec : (s : Sizes) (free : List ℕ) (top k n : ℕ) → s.block ≡ 2 ^ top → is_free_run s free k n ≡ true → IsFreeRunOf top (free_in s free) k n

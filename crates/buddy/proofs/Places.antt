@@ -1,6 +1,6 @@
 -- Places of blocks and runs.
 use Rattle.std.proofs.Common.{◌≡◌, ℕ, suc, ◌+◌, ◌-◌, ◌*◌, ◌/◌, ◌%◌, ◌^◌, ◌<◌, ◌≤◌, true, eqb, leb, ltb, ◌&&◌, sym, ap, ◌∙◌, arith, inl, inr}
-use Rattle.std.proofs.Math.Nat.{lt_of_mul-lt-mul_right, mul-mod_left, mul-le-mul_right, pow-suc}
+use Rattle.std.proofs.Math.Nat.{lt_of_mul-lt-mul_right, mul-mod_left, mul-le-mul_right, pow-suc, mul_assoc}
 use Rattle.std.proofs.lemmas.Nat.{pow-add, div-add-mod', pow_pos, shr-shr, div-mul-add, mod_below}
 use Rattle.std.proofs.lemmas.Bool.{and_parts, leb-true, eqb-true, ltb-true, cases_lt}
 use Rattle.evac_model.specs.Geometry.{Sizes, frame_count}
@@ -60,10 +60,7 @@ run_order s order first top f e = le_from_pow order top (omega (arith, f.small, 
 -- blocks' frames are multiples of each run's
 pub blocks_multiple : (s : Sizes) (order top n : ℕ) → s.block ≡ 2 ^ top → order ≤ top → n * s.block % 2 ^ order ≡ 0
 blocks_multiple s order top n e h =
-    ap (λ (m : ℕ). m % 2 ^ order) (ap (λ (b : ℕ). n * b) (e ∙ ap (λ (k : ℕ). 2 ^ k) (omega (arith, h)) ∙ pow-add 2 (top - order) order) ∙ assoc n (2 ^ (top - order)) (2 ^ order)) ∙ mul-mod_left (n * 2 ^ (top - order)) (2 ^ order)
-  where
-    assoc : (a b c : ℕ) → a * (b * c) ≡ a * b * c
-    assoc a b c = omega arith
+    ap (λ (m : ℕ). m % 2 ^ order) (ap (λ (b : ℕ). n * b) (e ∙ ap (λ (k : ℕ). 2 ^ k) (omega (arith, h)) ∙ pow-add 2 (top - order) order) ∙ sym (mul_assoc n (2 ^ (top - order)) (2 ^ order))) ∙ mul-mod_left (n * 2 ^ (top - order)) (2 ^ order)
 
 -- a run of boot blocks ends in them, and one behind them ends in the managed ones
 pub run_in_boot : (s : Sizes) (order first top : ℕ) → RunFacts s order first → s.block ≡ 2 ^ top → first < s.boot * s.block → first + 2 ^ order ≤ s.boot * s.block

@@ -58,17 +58,3 @@ in_high j k a ne h l =
 pub multiple_add : (m a b : ℕ) → a % m ≡ 0 → b % m ≡ 0 → (a + b) % m ≡ 0
 multiple_add m a b ea eb =
     add-mod a b m ∙ ap (λ (n : ℕ). (n + b % m) % m) ea ∙ ap (λ (n : ℕ). (0 + n) % m) eb ∙ zero-mod m
-
--- a multiple of a power of two is one of each smaller power
-pub multiple_down : (j k a : ℕ) → j ≤ k → a % 2 ^ k ≡ 0 → a % 2 ^ j ≡ 0
-multiple_down j k a h m =
-    ap (λ (n : ℕ). n % 2 ^ j) (sym whole ∙ ap (λ (n : ℕ). a / 2 ^ k * n) parts ∙ assoc (a / 2 ^ k) (2 ^ (k - j)) (2 ^ j)) ∙ mul-mod_left (a / 2 ^ k * 2 ^ (k - j)) (2 ^ j)
-  where
-    whole : a / 2 ^ k * 2 ^ k ≡ a
-    whole = omega (arith, div-add-mod' a (2 ^ k), m)
-
-    parts : 2 ^ k ≡ 2 ^ (k - j) * 2 ^ j
-    parts = ap (λ (n : ℕ). 2 ^ n) (omega (arith, h)) ∙ pow-add 2 (k - j) j
-
-    assoc : (x y z : ℕ) → x * (y * z) ≡ x * y * z
-    assoc x y z = omega arith

@@ -13,7 +13,8 @@ use Rattle.buddy.specs.Parts.{Part, replaced}
 use Rattle.buddy.specs.RunsInside.{flag, is_free, is_put_aside, frames_of, HasRoomFor, IsKept}
 use Rattle.buddy.proofs.Places.{RunFacts, run_facts, run_in_boot, run_in_managed}
 use Rattle.buddy.proofs.FrameFlags.{between_facts, cond_agree, flag-replicate, room_with, boot_with, managed_with}
-use Rattle.buddy.proofs.FrameValues.{some_frames, frame_in, put_aside-run}
+use Rattle.buddy.proofs.FrameValues.{frame_in, put_aside-run}
+use Rattle.evac_model.proofs.Bounds.{block_some}
 
 -- the value with a run's frames made free or taken
 abbrev pub set_frames : (first n : ℕ) → Bool → FreeFrames → FreeFrames
@@ -27,7 +28,7 @@ facts_inside s online boot managed aside withdrawn old order first view e =
 
 pub put_aside_inside : (s : Sizes) (online : Kind) (boot managed : Part) (aside withdrawn : List Bool) (old : FreeFrames) (frame : ℕ) (x : Bool) → IsKept s boot managed aside withdrawn → frames_of s online boot managed aside withdrawn ≡ old → is_frame_in old.sizes old.withdrawn frame ≡ x → is_put_aside s withdrawn frame ≡ x
 put_aside_inside s online boot managed aside withdrawn old frame x h view e =
-    sym (frame_in s withdrawn frame (some_frames s h.within) h.withdrawn_length) ∙ subst (λ (v : FreeFrames). is_frame_in v.sizes v.withdrawn frame ≡ x) (sym view) e
+    sym (frame_in s withdrawn frame (block_some s h.within) h.withdrawn_length) ∙ subst (λ (v : FreeFrames). is_frame_in v.sizes v.withdrawn frame ≡ x) (sym view) e
 
 -- the trees afterwards, by the frames that are free
 pub record AreSet (s : Sizes) (boot managed boot' managed' : Part) (first n : ℕ) (free : Bool) : Type 0 where
@@ -92,4 +93,4 @@ set_managed s boot managed managed' aside withdrawn order first free h f high e 
 
 pub put_aside_now : (s : Sizes) (online : Kind) (boot managed : Part) (aside withdrawn : List Bool) (old : FreeFrames) (frame : ℕ) → IsKept s boot managed aside withdrawn → frames_of s online boot managed aside withdrawn ≡ old → is_put_aside s withdrawn frame ≡ is_frame_in old.sizes old.withdrawn frame
 put_aside_now s online boot managed aside withdrawn old frame h view =
-    sym (frame_in s withdrawn frame (some_frames s h.within) h.withdrawn_length) ∙ ap (λ (v : FreeFrames). is_frame_in v.sizes v.withdrawn frame) view
+    sym (frame_in s withdrawn frame (block_some s h.within) h.withdrawn_length) ∙ ap (λ (v : FreeFrames). is_frame_in v.sizes v.withdrawn frame) view

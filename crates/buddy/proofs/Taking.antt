@@ -8,7 +8,7 @@ use Rattle.std.proofs.lemmas.List.{get_or-take, get_or-drop, length-take-le, len
 use Rattle.std.proofs.lemmas.List.FromFn.{length-map-range_with_len, get_or-map-range_with_len}
 use Rattle.evac_model.specs.declared.names.Kind.{Kind}
 use Rattle.evac_model.specs.Geometry.{Sizes, frame_count}
-use Rattle.evac_model.specs.Numbers.{numbers_where, is_in, is_between}
+use Rattle.evac_model.specs.Numbers.{numbers_where, is_in, is_between, IsRisingBelow}
 use Rattle.evac_model.specs.FreeRuns.{is_run}
 use Rattle.evac_model.proofs.Numbers.{numbers_agree, is_in-numbers_where}
 use Rattle.buddy.specs.FreeFrames.{FreeFrames, after_take}
@@ -16,12 +16,14 @@ use Rattle.buddy.specs.Parts.{Part, is_whole, lowest_run}
 use Rattle.buddy.specs.Choice.{part_free, choice_of_order, first_choice, tree_choice}
 use Rattle.buddy.specs.RunsInside.{flag, is_free, HasRoomFor, frames_of, IsKept}
 use Rattle.std.proofs.Math.Nat.{mul-le-mul_right}
-use Rattle.buddy.proofs.Powers.{pow_double, pow_le, le_from_pow, multiple_down, multiple_add}
+use Rattle.buddy.proofs.Powers.{pow_double, pow_le, le_from_pow, multiple_add}
 use Rattle.buddy.proofs.Lowest.{in_part, in_halves, lowest_run-place, IsPlace}
 use Rattle.buddy.proofs.Places.{blocks_multiple, frames_split}
 use Rattle.buddy.proofs.FrameFlags.{free_in_boot, free_in_managed}
 use Rattle.buddy.proofs.Setting.{set_frames}
 use Rattle.buddy.proofs.Blocks.{without}
+use Rattle.buddy.proofs.Aligned.{aligned_less}
+use Rattle.evac_model.proofs.Unions.{without_range-below}
 
 -- the first frame of a free run is free
 first_flag : (free : List Bool) → 0 < length free → list_all (λ (b : Bool). b) free ≡ true → flag free 0 ≡ true
@@ -109,14 +111,14 @@ choice_run s boot managed takes order first b m e =
     in_boot : (w : ℕ) → order ≤ w → lowest_run boot.top boot.order boot.free w ≡ Some first → is_run s order first ≡ true
     in_boot w l e =
         let f = found_in s (s.boot * s.block) boot w first b e in
-        is_run_from s order first (multiple_down order w first l f.multiple) (small_order s boot (s.boot * s.block) order w b l f.runs) (omega (arith, f.below, frames_split s))
+        is_run_from s order first (aligned_less order w first l f.multiple) (small_order s boot (s.boot * s.block) order w b l f.runs) (omega (arith, f.below, frames_split s))
 
     in_managed : (w place : ℕ) → order ≤ w → lowest_run managed.top managed.order managed.free w ≡ Some place → s.boot * s.block + place ≡ first → is_run s order first ≡ true
     in_managed w place l e is =
         let f = found_in s (s.managed * s.block) managed w place m e in
         subst (λ (n : ℕ). is_run s order n ≡ true) is
         (is_run_from s order (s.boot * s.block + place)
-        (multiple_add (2 ^ order) (s.boot * s.block) place (blocks_multiple s order managed.top s.boot m.block (omega (arith, l, f.runs))) (multiple_down order w place l f.multiple))
+        (multiple_add (2 ^ order) (s.boot * s.block) place (blocks_multiple s order managed.top s.boot m.block (omega (arith, l, f.runs))) (aligned_less order w place l f.multiple))
         (small_order s managed (s.managed * s.block) order w m l f.runs)
         (omega (arith, f.below, frames_split s)))
 
@@ -130,11 +132,12 @@ choice_run s boot managed takes order first b m e =
     at_order w l t e = choose_from w (lowest_run boot.top boot.order boot.free w) (lowest_run managed.top managed.order managed.free w) l refl refl t e
 
 -- the runs once one is taken
-pub taken_value : (order first : ℕ) (old : FreeFrames) → set_frames first (2 ^ order) false old ≡ after_take order (Some first) old
-taken_value order first old =
+pub taken_value : (order first : ℕ) (old : FreeFrames) → IsRisingBelow (frame_count old.sizes) old.free → set_frames first (2 ^ order) false old ≡ after_take order (Some first) old
+taken_value order first old rising =
     ap (λ (xs : List ℕ). record old { free = xs })
     (numbers_agree (λ k. cond (is_between first (first + 2 ^ order) k) false (is_in k old.free)) (λ k. is_in k old.free && not (is_between first (first + 2 ^ order) k)) (frame_count old.sizes)
-    (λ k l. without (is_between first (first + 2 ^ order) k) (is_in k old.free)))
+    (λ k l. without (is_between first (first + 2 ^ order) k) (is_in k old.free))
+    ∙ sym (without_range-below first (2 ^ order) (frame_count old.sizes) old.free rising))
 
 -- The flags of both trees, from the list of the free frames: a place has the flag of its frame, and those
 -- behind the last frame have none.

@@ -21,7 +21,7 @@ no_frames s online = record { sizes = s; online = online; free = []; aside = [];
 -- behind a take of a run of that order, which may have found none
 abbrev pub after_take : (order : ℕ) → Option ℕ → FreeFrames → FreeFrames
 after_take order None r = r
-after_take order (Some first) r = record r { free = without_range first (2 ^ order) (frame_count r.sizes) r.free }
+after_take order (Some first) r = record r { free = without_range first (2 ^ order) r.free }
 
 -- frames that were neither free nor kept aside are given: those of withdrawn blocks are kept aside, the
 -- others are free

@@ -13,6 +13,3 @@ pub use laws::{
     the_choice_is_the_best, the_choice_is_the_lowest,
 };
 pub use runs::Runs;
-
-#[cfg(test)]
-mod tests;

@@ -1,3 +1,1 @@
-pub mod Count
-pub mod Calls
-pub mod BlockLists
+pub mod Slates

@@ -2,8 +2,7 @@
 
 ghost use Rattle.std.specs.Prelude.{◌≡◌, ◌↔◌, ℕ, ◌≤◌, Option, OnErr, IsErr};
 ghost use Rattle.std.specs.Option.{option_map};
-ghost use Rattle.dma_listeners.specs.Count.{Rose, WhereTold};
-ghost use Rattle.dma_listeners.specs.Calls.{Calls, after_call, IsListed};
+ghost use Rattle.evac_model.specs.Counts.{Calls, after_call, IsListed, Rose, WhereTold};
 
 use crate::Failed;
 use evac_model::BlockNo;

@@ -13,8 +13,8 @@ mod registry;
 mod slate;
 
 pub use backing::Backing;
-pub use evac_model::{BlockNo, NumberList};
-pub use fault::{Failed, Refused};
+pub use evac_model::{BlockNo, Failed, NumberList};
+pub use fault::Refused;
 pub use listener::Listener;
 pub use registry::Registry;
 pub use slate::{Slate, SureSlate};

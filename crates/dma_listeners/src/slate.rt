@@ -1,12 +1,10 @@
 //! A backing that fails at listed calls, and one that never fails.
 
-ghost use Rattle.std.specs.Prelude.{◌≡◌, ◌↔◌, ◌≤◌, OnOk, OnErr, IsOk, IsErr, IsTrue, Some, None};
-ghost use Rattle.dma_listeners.specs.Count.{one_more};
-ghost use Rattle.dma_listeners.specs.Calls.{after_call, IsListed};
+ghost use Rattle.std.specs.Prelude.{◌≡◌, ◌↔◌, ◌≤◌, OnOk, OnErr, IsOk, IsErr, Some, None};
+ghost use Rattle.evac_model.specs.Counts.{one_more, after_call, IsListed};
 
-use crate::fault::count_up;
 use crate::{Backing, Failed};
-use evac_model::{BlockNo, NumberList};
+use evac_model::{BlockNo, CallCount, NumberList, count_up};
 use std::marker::Model;
 
 /// A backing that gives nothing back, and fails at exactly the listed calls. The first call has the
@@ -14,29 +12,27 @@ use std::marker::Model;
 /// listed. No call takes memory.
 #[derive(Debug, Drop)]
 pub struct Slate {
-    fails: NumberList,
-    made: u64,
+    calls: CallCount,
     faults: u64,
 }
 
 impl Model for Slate {
-    ghost use Rattle.dma_listeners.specs.Calls.{SlateState};
+    ghost use Rattle.dma_listeners.specs.Slates.{SlateState};
 
     ghost Value = { SlateState };
 
-    ghost view = { λ s. record { calls = record { fails = s.fails; made = s.made }; faults = s.faults } };
+    ghost view = { λ s. record { calls = s.calls; faults = s.faults } };
 }
 
 impl Slate {
-    ghost use Rattle.dma_listeners.specs.Calls.{fresh_slate};
+    ghost use Rattle.dma_listeners.specs.Slates.{fresh_slate};
 
     /// A backing that fails at exactly the listed calls, counted from 1.
     pub fn new(fails: NumberList) -> Slate
         ensures { result ≡ fresh_slate fails }
     {
         Slate {
-            fails,
-            made: 0,
+            calls: CallCount::new(fails),
             faults: 0,
         }
     }
@@ -55,9 +51,7 @@ impl Backing for Slate {
         ensures counts { self.old.faults ≤ self.new.faults }
         ensures calls { self.new.calls ≡ after_call self.old.calls }
     {
-        let listed = is_listed(&self.fails, self.made);
-        self.made = count_up(self.made);
-        if listed {
+        if self.calls.is_next_listed() {
             self.faults = count_up(self.faults);
             return Err(Failed);
         }
@@ -88,11 +82,4 @@ impl Backing for SureSlate {
     {
         Ok(())
     }
-}
-
-// Whether the call after so many is listed.
-fn is_listed(fails: &NumberList, made: u64) -> bool
-    ensures { IsTrue result ↔ IsListed (record { fails = fails.now; made = made }) }
-{
-    made < u64::MAX && fails.as_slice().contains(&(made + 1))
 }

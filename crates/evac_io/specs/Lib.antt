@@ -1,4 +1,3 @@
 pub mod Edge
-pub mod Fault
 pub mod Memory
 pub mod Told

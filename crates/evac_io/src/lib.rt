@@ -5,8 +5,6 @@
 //! writers, and loops that read or write everything.
 #![tactic(auto)]
 
-mod fault;
-mod lists;
 mod memory_sink;
 mod memory_source;
 mod read_whole;
@@ -15,8 +13,7 @@ mod source;
 mod std_edge;
 mod write_whole;
 
-pub use fault::{Failed, OutOfMemory};
-pub use lists::{ByteList, NumberList};
+pub use evac_model::{ByteList, Failed, NumberList, OutOfMemory};
 pub use memory_sink::{MemSink, SureSink};
 pub use memory_source::{MemSource, SureSource};
 pub use read_whole::{ReadAllFault, read_all};
@@ -24,6 +21,3 @@ pub use sink::Sink;
 pub use source::Source;
 pub use std_edge::{StdSink, StdSource};
 pub use write_whole::write_all;
-
-#[cfg(test)]
-mod tests;

@@ -1,12 +1,11 @@
 //! A sink in memory, and one that only counts.
 
 ghost use Rattle.std.specs.Prelude.{◌≡◌, ◌+◌, ◌-◌, ◌^◌, ◌++◌, ◌↔◌, ◌≤◌, [], length, take, min, None, Some, Ok, IfOk, OnOk, OnErr, IsErr};
-ghost use Rattle.evac_io.specs.Fault.{one_more};
+ghost use Rattle.evac_model.specs.Counts.{one_more, after_call};
 ghost use Rattle.evac_io.specs.Memory.{FailsAt, fresh_sink};
 
-use crate::fault::count_up;
-use crate::memory_source::is_listed;
 use crate::{Failed, NumberList, OutOfMemory, Sink};
+use evac_model::{CallCount, count_up};
 use std::alloc::Global;
 use std::marker::Model;
 
@@ -17,8 +16,7 @@ use std::marker::Model;
 pub struct MemSink {
     bytes: Vec<u8>,
     room: usize,
-    fails: NumberList,
-    calls: u64,
+    calls: CallCount,
     faults: u64,
 }
 
@@ -28,7 +26,7 @@ impl Model for MemSink {
 
     ghost Value = { SinkState };
 
-    ghost view = { λ s. record { taken = s.bytes.items; room = s.room; calls = s.calls; fails = s.fails; faults = s.faults } };
+    ghost view = { λ s. record { taken = s.bytes.items; room = s.room; calls = s.calls; faults = s.faults } };
 
     ghost invariant = { λ s. vec_len s.bytes + s.room ≤ vec_capacity s.bytes };
 }
@@ -44,8 +42,7 @@ impl MemSink {
         Ok(MemSink {
             bytes,
             room,
-            fails,
-            calls: 0,
+            calls: CallCount::new(fails),
             faults: 0,
         })
     }
@@ -84,11 +81,9 @@ impl Sink for MemSink {
         ensures counted { OnErr result (self.new.faults ≡ one_more self.old.faults) }
 
         ensures counts { self.old.faults ≤ self.new.faults }
-        ensures calls { self.new.calls ≡ one_more self.old.calls }
-        ensures list { self.new.fails ≡ self.old.fails }
+        ensures calls { self.new.calls ≡ after_call self.old.calls }
     {
-        let listed = is_listed(&self.fails, self.calls);
-        self.calls = count_up(self.calls);
+        let listed = self.calls.is_next_listed();
         if listed || (!piece.is_empty() && self.room == 0) {
             self.faults = count_up(self.faults);
             return Err(Failed);

@@ -1,12 +1,12 @@
 //! Sources of bytes in memory.
 
-ghost use Rattle.std.specs.Prelude.{◌≡◌, ◌++◌, ◌↔◌, ◌<◌, ◌≤◌, length, take, drop, min, Some, IfOk, OnOk, OnErr, IsOk, IsErr, IsTrue};
-ghost use Rattle.evac_io.specs.Fault.{one_more, Rose};
-ghost use Rattle.evac_io.specs.Memory.{IsListed, fresh_source};
+ghost use Rattle.std.specs.Prelude.{◌≡◌, ◌++◌, ◌↔◌, ◌<◌, ◌≤◌, length, take, drop, min, Some, IfOk, OnOk, OnErr, IsOk, IsErr};
+ghost use Rattle.evac_model.specs.Counts.{one_more, after_call, IsListed, Rose};
+ghost use Rattle.evac_io.specs.Memory.{fresh_source};
 ghost use Rattle.evac_io.specs.Told.{Gives, IsAtEnd};
 
-use crate::fault::count_up;
 use crate::{ByteList, Failed, NumberList, Source};
+use evac_model::{CallCount, count_up};
 use std::marker::Model;
 
 /// Bytes in memory, with reads that fail at listed calls. The first call has the number 1. The
@@ -15,8 +15,7 @@ use std::marker::Model;
 pub struct MemSource {
     bytes: ByteList,
     at: usize,
-    fails: NumberList,
-    calls: u64,
+    calls: CallCount,
     faults: u64,
 }
 
@@ -26,7 +25,7 @@ impl Model for MemSource {
 
     ghost Value = { SourceState };
 
-    ghost view = { λ s. record { left = drop s.at s.bytes; calls = s.calls; fails = s.fails; faults = s.faults } };
+    ghost view = { λ s. record { left = drop s.at s.bytes; calls = s.calls; faults = s.faults } };
 
     ghost invariant = { λ s. s.at ≤ length s.bytes };
 }
@@ -39,8 +38,7 @@ impl MemSource {
         MemSource {
             bytes,
             at: 0,
-            fails,
-            calls: 0,
+            calls: CallCount::new(fails),
             faults: 0,
         }
     }
@@ -53,7 +51,7 @@ impl Source for MemSource {
 
     /// Gives as many bytes as are left and have room, unless the call is listed.
     fn read(&mut self, into: &mut [u8]) -> Result<usize, Failed>
-        ensures fails { IsErr result ↔ IsListed self.old.fails self.old.calls }
+        ensures fails { IsErr result ↔ IsListed self.old.calls }
         ensures count { IfOk result (λ n. n ≡ min (length into.new) (length self.old.left)) }
         ensures gives { IfOk result (λ n. self.old.left ≡ take n into.new ++ self.new.left) }
         ensures rest { IfOk result (λ n. drop n into.new ≡ drop n into.old) }
@@ -64,12 +62,9 @@ impl Source for MemSource {
         ensures counted { OnErr result (self.new.faults ≡ one_more self.old.faults) }
 
         ensures counts { self.old.faults ≤ self.new.faults }
-        ensures calls { self.new.calls ≡ one_more self.old.calls }
-        ensures list { self.new.fails ≡ self.old.fails }
+        ensures calls { self.new.calls ≡ after_call self.old.calls }
     {
-        let listed = is_listed(&self.fails, self.calls);
-        self.calls = count_up(self.calls);
-        if listed {
+        if self.calls.is_next_listed() {
             self.faults = count_up(self.faults);
             return Err(Failed);
         }
@@ -121,13 +116,6 @@ impl Source for SureSource {
         self.at += count;
         Ok(count)
     }
-}
-
-/// Whether the call after so many is listed.
-pub(crate) fn is_listed(fails: &NumberList, calls: u64) -> bool
-    ensures { IsTrue result ↔ IsListed fails.now calls }
-{
-    calls < u64::MAX && fails.as_slice().contains(&(calls + 1))
 }
 
 /// Copies as many bytes as there are and have room, and says how many.

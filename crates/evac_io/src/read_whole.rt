@@ -1,7 +1,7 @@
 //! Reading a source to its end.
 
 ghost use Rattle.std.specs.Prelude.{◌≡◌, ℕ, ◌+◌, ◌≤◌, ◌<◌, List, ◌-◌, ◌++◌, length, take, min, IfOk, OnOk, IsErrOf};
-ghost use Rattle.evac_io.specs.Fault.{Rose};
+ghost use Rattle.evac_model.specs.Counts.{Rose};
 ghost use Rattle.evac_io.specs.Told.{Gives, IsAtEnd, IsLongerThan};
 ghost use Rattle.evac_io.specs.declared.read_whole.ReadAllFault.TheVariants as fault;
 
@@ -54,6 +54,9 @@ pub fn read_all<S: Source>(alloc: Global, s: &mut S, limit: u64) -> Result<ByteL
     ensures end { OnOk result (IsAtEnd (S.left s.new)) }
     ensures within { IfOk result (λ bytes. length bytes ≤ limit) }
 
+    // No read failed.
+    ensures sure { OnOk result (S.faults s.new ≡ S.faults s.old) }
+
     ensures failed { IsErrOf result ReadAllFault.Failed → Rose (S.faults s.old) (S.faults s.new) }
     ensures too_long { IsErrOf result ReadAllFault.TooLong → IsLongerThan (S.left s.old) limit }
 
@@ -93,6 +96,7 @@ fn read_piece<S: Source>(
     ensures bound { IfOk result (λ count. count ≤ length piece.new) }
     ensures within { IfOk result (λ count. count ≤ room) }
     ensures end { IfOk result (λ count. count ≡ 0 → IsAtEnd (S.left s.new)) }
+    ensures sure { OnOk result (S.faults s.new ≡ S.faults s.old) }
 
     ensures failed { IsErrOf result ReadAllFault.Failed → Rose (S.faults s.old) (S.faults s.new) }
     ensures too_long { IsErrOf result ReadAllFault.TooLong → (count : ℕ) × (room < count)

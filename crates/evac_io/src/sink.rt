@@ -1,7 +1,7 @@
 //! Where bytes go.
 
 ghost use Rattle.std.specs.Prelude.{◌≡◌, ℕ, ◌<◌, ◌≤◌, List, Option, length, take, IfOk, OnErr};
-ghost use Rattle.evac_io.specs.Fault.{Rose};
+ghost use Rattle.evac_model.specs.Counts.{Rose};
 ghost use Rattle.evac_io.specs.Told.{Takes};
 
 use crate::Failed;

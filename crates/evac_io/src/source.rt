@@ -1,7 +1,7 @@
 //! Where bytes come from.
 
-ghost use Rattle.std.specs.Prelude.{◌≡◌, ℕ, ◌<◌, ◌≤◌, List, Option, length, take, IfOk, OnErr};
-ghost use Rattle.evac_io.specs.Fault.{Rose};
+ghost use Rattle.std.specs.Prelude.{◌≡◌, ℕ, ◌<◌, ◌≤◌, List, Option, length, take, IfOk, OnOk, OnErr};
+ghost use Rattle.evac_model.specs.Counts.{Rose};
 ghost use Rattle.evac_io.specs.Told.{Gives, IsAtEnd};
 
 use crate::Failed;
@@ -22,6 +22,9 @@ pub trait Source {
 
         // 0 comes only at the end. That it does come there follows from `gives`.
         ensures end { IfOk result (λ count. count ≡ 0 → 0 < length into.new → IsAtEnd (left self.old)) }
+
+        // What was given met no fault.
+        ensures ok { OnOk result (faults self.new ≡ faults self.old) }
 
         ensures err { OnErr result (left self.new ≡ left self.old) }
         ensures cause { OnErr result (Rose (faults self.old) (faults self.new)) }

@@ -1,10 +1,10 @@
 //! Adapters of std's readers and writers. They tell no bytes, and count each failure.
 
 ghost use Rattle.std.specs.Prelude.{◌≡◌, ◌<◌, ◌≤◌, length, None, IfOk, OnOk, OnErr};
-ghost use Rattle.evac_io.specs.Fault.{one_more, Rose};
+ghost use Rattle.evac_model.specs.Counts.{one_more, Rose};
 
-use crate::fault::count_up;
 use crate::{Failed, Sink, Source};
+use evac_model::count_up;
 use std::io::{ErrorKind, Read, Write};
 
 /// A reader of std as a source. It tells no bytes. Each `Err` of the reader is a fault, but for

@@ -1,7 +1,7 @@
 //! Writing a whole text.
 
 ghost use Rattle.std.specs.Prelude.{ℕ, ◌<◌, ◌≤◌, length, take, OnOk, OnErr};
-ghost use Rattle.evac_io.specs.Fault.{Rose};
+ghost use Rattle.evac_model.specs.Counts.{Rose};
 ghost use Rattle.evac_io.specs.Told.{Takes};
 
 use crate::{Failed, Sink};

@@ -1,9 +1,12 @@
 -- Bounds on the numbers of a geometry and on their products.
-use Rattle.std.proofs.Common.{◌≡◌, ℕ, suc, zero, ◌*◌, ◌^◌, ◌<◌, ◌≤◌, Bool, true, false, nat_eq, ◌||◌, ◌↔◌, IsTrue, List, [], ◌∷◌, refl, sym, subst, ◌∙◌, arith, Fits, w32, lit≤, rules}
+use Rattle.std.proofs.Common.{◌≡◌, ℕ, suc, zero, ◌+◌, ◌*◌, ◌^◌, ◌<◌, ◌≤◌, Bool, true, false, nat_eq, ◌||◌, ◌↔◌, IsTrue, List, [], ◌∷◌, refl, sym, subst, ◌∙◌, arith, Fits, w32, lit≤, rules}
 use Rattle.std.proofs.lemmas.Bool.{eqb-true}
 use Rattle.std.specs.List.{list_any, AllByRecursion}
 use Rattle.std.proofs.Math.Nat.{mul-le-mul}
+use Rattle.std.proofs.lemmas.Bool.Decides.{nat_tests}
+use Rattle.evac_model.specs.Geometry.{Sizes, IsWithinLimits}
 use Rattle.evac_model.specs.GeometryLimits.{IsPowerTo512}
+use Rattle.evac_model.specs.DeviceAnswer.{is_good_range, block_at}
 
 -- what holds of each number to 9
 pub to_nine : (P : ℕ → Type 0) → P 0 → P 1 → P 2 → P 3 → P 4 → P 5 → P 6 → P 7 → P 8 → P 9 → (k : ℕ) → k ≤ 9 → P k
@@ -57,3 +60,11 @@ is_power_tested n r e = (
 pub product_fits : (blocks block : ℕ) → blocks ≤ 131072 → block ≤ 512 → Fits w32 (blocks * block)
 product_fits blocks block h k =
     let most : blocks * block < 2 ^ 32 = omega (arith, mul-le-mul h k) in search rules
+
+-- a block has a frame
+pub block_some : (s : Sizes) → IsWithinLimits s → 0 < s.block
+block_some s w = power_to_512_least s.block w.block
+
+-- a good range lies in the region
+pub good_within : (s : Sizes) (addr count : ℕ) → is_good_range s addr count ≡ true → block_at s addr + count ≤ s.managed
+good_within s addr count good = grind (arith, nat_tests, good)

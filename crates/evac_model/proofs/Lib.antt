@@ -1,3 +1,6 @@
+pub mod Booleans
+pub mod Filters
+pub mod Options
 pub mod Tables
 pub mod Bounds
 pub mod Histories
@@ -8,6 +11,8 @@ pub mod PageSizes
 pub mod Refusals
 pub mod Numbers
 pub mod Ranges
+pub mod Members
+pub mod Unions
 pub mod Padded
 pub mod Pairings
 pub mod PairedExample

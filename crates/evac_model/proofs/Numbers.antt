@@ -3,7 +3,9 @@ use Rattle.std.proofs.Common.{◌≡◌, ◌≢◌, ℕ, zero, suc, ◌+◌, ◌
 use Rattle.std.specs.List.{filter, range_with_len}
 use Rattle.std.proofs.lemmas.Bool.{cases_eq, eq-eqb, ne_eqb}
 use Rattle.std.proofs.Math.Dec.{eqb}
-use Rattle.evac_model.specs.Numbers.{numbers_where, is_in}
+use Rattle.std.proofs.lemmas.List.FromFn.{length-range_with_len}
+use Rattle.evac_model.specs.Numbers.{numbers_where, is_in, IsRisingBelow}
+use Rattle.evac_model.proofs.Filters.{length-filter-le}
 
 -- two tests that agree on n numbers keep the same of them
 filter_range_agree : (p q : ℕ → Bool) (a n : ℕ) → ((b : ℕ) → a ≤ b → b < a + n → p b ≡ q b) → filter p (range_with_len a n) ≡ filter q (range_with_len a n)
@@ -51,17 +53,13 @@ is_in-numbers_where p n b h = is_in_range p 0 n b (omega arith) (omega (arith, h
 pub is_in-numbers_where_past : (p : ℕ → Bool) (n b : ℕ) → n ≤ b → is_in b (numbers_where p n) ≡ false
 is_in-numbers_where_past p n b h = is_in_above p 0 n b (omega (arith, h))
 
+-- they are rising
+pub numbers_rising : (p : ℕ → Bool) (n : ℕ) → IsRisingBelow n (numbers_where p n)
+numbers_rising p n = numbers_agree p (λ b. is_in b (numbers_where p n)) n (λ b l. sym (is_in-numbers_where p n b l))
+
 -- no more are kept than there are
-length_cond : (t : Bool) (a : ℕ) (xs : List ℕ) (n : ℕ) → length xs ≤ n → length (cond t (a ∷ xs) xs) ≤ suc n
-length_cond true a xs n h = omega arith
-length_cond false a xs n h = omega arith
-
-length_filter_range : (p : ℕ → Bool) (a n : ℕ) → length (filter p (range_with_len a n)) ≤ n
-length_filter_range p a zero = omega arith
-length_filter_range p a (suc n) = length_cond (p a) a (filter p (range_with_len (a + 1) n)) n (length_filter_range p (a + 1) n)
-
 pub length-numbers_where : (p : ℕ → Bool) (n : ℕ) → length (numbers_where p n) ≤ n
-length-numbers_where p n = length_filter_range p 0 n
+length-numbers_where p n = omega (arith, length-filter-le p (range_with_len 0 n), length-range_with_len 0 n)
 
 -- where one number more passes, one more is kept
 length_cond_more : (t : Bool) (a : ℕ) (xs ys : List ℕ) → length ys ≡ length xs + 1 → length (cond t (a ∷ ys) ys) ≡ length (cond t (a ∷ xs) xs) + 1

@@ -26,7 +26,7 @@ either b x y = cond b x y
 new_page_size : (n : ℕ) (kind : Kind) → IsPage n (new_page n kind)
 new_page_size n kind = record { cells = length-replicate n 0; pins = omega arith }
 
-written_size : (first : ℕ) (values cells : List ℕ) → first + length values ≤ length cells → length (written first values cells) ≡ length cells
+pub written_size : (first : ℕ) (values cells : List ℕ) → first + length values ≤ length cells → length (written first values cells) ≡ length cells
 written_size first values cells h =
     let front : length (take first cells) ≡ first = length-take-le first cells (omega arith) in
     omega (arith, front, length-append {A = ℕ}, length-drop {A = ℕ})

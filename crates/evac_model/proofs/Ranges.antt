@@ -1,6 +1,9 @@
 -- Ranges of numbers, as tests.
-use Rattle.std.proofs.Common.{◌≡◌, ◌≢◌, ℕ, ◌+◌, ◌<◌, ◌≤◌, Bool, true, false, not, ◌&&◌, ◌||◌, refl, sym, ap, ◌∙◌, arith, inl, inr}
-use Rattle.std.proofs.lemmas.Bool.{cases_lt, cases_eq}
+use Rattle.std.proofs.Common.{◌≡◌, ◌≢◌, ℕ, zero, suc, ◌+◌, ◌<◌, ◌≤◌, Bool, true, false, not, ◌&&◌, ◌||◌, refl, sym, ap, ◌∙◌, arith, inl, inr}
+use Rattle.std.specs.List.{list_all, range_with_len}
+use Rattle.std.proofs.Math.Bool.{or-true, or-false, and-true, and-false}
+use Rattle.std.proofs.Math.Dec.{eqb}
+use Rattle.std.proofs.lemmas.Bool.{cases_lt, cases_eq, eq-eqb, ne_eqb, and_parts}
 use Rattle.std.proofs.lemmas.Bool.Decides.{nat_tests}
 use Rattle.evac_model.specs.Numbers.{is_between}
 
@@ -24,25 +27,37 @@ between_more first b k h =
       ]
     ]
 
-between_empty : (first k : ℕ) → is_between first first k ≡ false
+pub between_empty : (first k : ℕ) → is_between first first k ≡ false
 between_empty first k =
     elim (cases_lt k first) [ inl l ↦ between_below first first k l | inr g ↦ between_above first first k g ]
 
-or_true : (t : Bool) → (t || true) ≡ true
-or_true true = refl
-or_true false = refl
+-- a range of no number, and of one
+pub between_none : (first k : ℕ) → is_between first (first + 0) k ≡ false
+between_none first k =
+    elim (cases_lt k first) [ inl l ↦ between_below first (first + 0) k l | inr g ↦ between_above first (first + 0) k (omega arith) ]
 
-or_false : (t : Bool) → (t || false) ≡ t
-or_false true = refl
-or_false false = refl
+pub between_one : (first k : ℕ) → is_between first (first + 1) k ≡ eqb k first
+between_one first k =
+    elim (cases_eq k first) [
+      | inl e ↦ between_inside first (first + 1) k (omega (arith, e)) (omega (arith, e)) ∙ sym (eq-eqb k first e)
+      | inr ne ↦ between_more first first k ne ∙ between_empty first k ∙ sym (ne_eqb k first ne)
+    ]
 
-and_false : (t : Bool) → (t && false) ≡ false
-and_false true = refl
-and_false false = refl
+-- a test that all numbers of a range pass
+pub list_all-range : (test : ℕ → Bool) (first n : ℕ) → ((b : ℕ) → first ≤ b → b < first + n → test b ≡ true) → list_all test (range_with_len first n) ≡ true
+list_all-range test first zero h = refl
+list_all-range test first (suc n) h =
+    let here : test first ≡ true = h first (omega arith) (omega arith) in
+    rw here (list_all-range test (first + 1) n (λ b f l. h b (omega arith) (omega arith)))
 
-and_true : (t : Bool) → (t && true) ≡ t
-and_true true = refl
-and_true false = refl
+pub range-list_all : (test : ℕ → Bool) (first n : ℕ) → list_all test (range_with_len first n) ≡ true → (b : ℕ) → first ≤ b → b < first + n → test b ≡ true
+range-list_all test first zero h b f l = absurd (omega arith)
+range-list_all test first (suc n) h b f l =
+    let parts = and_parts (test first) (list_all test (range_with_len (first + 1) n)) h in
+    elim (cases_eq b first) [
+      | inl e ↦ ap test e ∙ parts.0
+      | inr ne ↦ range-list_all test (first + 1) n parts.1 b (omega (arith, ne)) (omega arith)
+    ]
 
 -- old, before and after are tests: before has the range below b too, and after has b
 pub with_more : (old before after : ℕ → Bool) (first b : ℕ) → first ≤ b → ((k : ℕ) → before k ≡ (old k || is_between first b k)) → after b ≡ true → ((k : ℕ) → k ≢ b → after k ≡ before k) → (k : ℕ) → after k ≡ (old k || is_between first (b + 1) k)
@@ -50,7 +65,7 @@ with_more old before after first b f h here others k =
     elim (cases_eq k b) [
       | inl e ↦
           let inside : is_between first (b + 1) k ≡ true = between_inside first (b + 1) k (omega (arith, e, f)) (omega (arith, e)) in
-          ap after e ∙ here ∙ sym (ap (λ (t : Bool). old k || t) inside ∙ or_true (old k))
+          ap after e ∙ here ∙ sym (ap (λ (t : Bool). old k || t) inside ∙ or-true (old k))
       | inr ne ↦ others k ne ∙ h k ∙ ap (λ (t : Bool). old k || t) (sym (between_more first b k ne))
     ]
 
@@ -60,7 +75,7 @@ without_more old before after first b f h here others k =
     elim (cases_eq k b) [
       | inl e ↦
           let inside : is_between first (b + 1) k ≡ true = between_inside first (b + 1) k (omega (arith, e, f)) (omega (arith, e)) in
-          ap after e ∙ here ∙ sym (ap (λ (t : Bool). old k && not t) inside ∙ and_false (old k))
+          ap after e ∙ here ∙ sym (ap (λ (t : Bool). old k && not t) inside ∙ and-false (old k))
       | inr ne ↦ others k ne ∙ h k ∙ ap (λ (t : Bool). old k && not t) (sym (between_more first b k ne))
     ]
 
@@ -73,7 +88,7 @@ without_same old before first b f h here = without_more old before before first 
 
 -- an empty range adds and takes nothing
 pub with_none : (t : Bool) (first k : ℕ) → t ≡ (t || is_between first first k)
-with_none t first k = sym (ap (λ (x : Bool). t || x) (between_empty first k) ∙ or_false t)
+with_none t first k = sym (ap (λ (x : Bool). t || x) (between_empty first k) ∙ or-false t)
 
 pub without_none : (t : Bool) (first k : ℕ) → t ≡ (t && not (is_between first first k))
-without_none t first k = sym (ap (λ (x : Bool). t && not x) (between_empty first k) ∙ and_true t)
+without_none t first k = sym (ap (λ (x : Bool). t && not x) (between_empty first k) ∙ and-true t)

@@ -18,19 +18,19 @@ use Rattle.evac_model.specs.Tables.{with_entry, numbered, table_map}
 use Rattle.evac_model.proofs.Tables.{get-table_map, table_map-set_some, table_map-set_none}
 
 -- the plain state of a list of slots
-abbrev pub state_of : List Slot → PlainState
-state_of slots = table_map (map page_of slots)
+abbrev pub slots_state : List Slot → PlainState
+slots_state slots = table_map (map page_of slots)
 
 table_map-set : (xs : List Page) (k : ℕ) (x : Page) → k < length xs → table_map (set xs k x) ≡ with_page (table_map xs) k x
 table_map-set xs k None h = table_map-set_none xs k h
 table_map-set xs k (Some m) h = table_map-set_some xs k m h
 
 abbrev pub machine : Sizes → List Slot → PlainMachine
-machine g slots = record { sizes = g; state = state_of slots }
+machine g slots = record { sizes = g; state = slots_state slots }
 
 -- a new slot in a place is that page's new value
-pub state_of-set : (slots : List Slot) (k : ℕ) (s : Slot) → k < length slots → state_of (set slots k s) ≡ with_page (state_of slots) k (page_of s)
-state_of-set slots k s h =
+pub slots_state-set : (slots : List Slot) (k : ℕ) (s : Slot) → k < length slots → slots_state (set slots k s) ≡ with_page (slots_state slots) k (page_of s)
+slots_state-set slots k s h =
     ap table_map (map-set page_of slots k s) ∙ table_map-set (map page_of slots) k (page_of s) (omega (arith, length-map slots page_of))
 
 page_at_place : (slots : List Slot) (k : ℕ) (s : Slot) → k < length slots → s ≡ get_or slots k s → get_or (map page_of slots) k None ≡ page_of s
@@ -39,8 +39,8 @@ page_at_place (x ∷ slots) zero s h e = ap page_of (sym e)
 page_at_place (x ∷ slots) (suc k) s h e = page_at_place slots k s (omega arith) e
 
 -- a page is that of its slot
-pub page_at-state_of : (slots : List Slot) (k : ℕ) (s : Slot) → k < length slots → s ≡ get_or slots k s → page_at (state_of slots) k ≡ page_of s
-page_at-state_of slots k s h e = get-table_map (map page_of slots) k ∙ page_at_place slots k s h e
+pub page_at-slots_state : (slots : List Slot) (k : ℕ) (s : Slot) → k < length slots → s ≡ get_or slots k s → page_at (slots_state slots) k ≡ page_of s
+page_at-slots_state slots k s h e = get-table_map (map page_of slots) k ∙ page_at_place slots k s h e
 
 numbered_empty : (n k : ℕ) (slots : List Slot) → AllByRecursion (IsEmptySlot n) slots → numbered k (map page_of slots) ≡ []
 numbered_empty n k [] h = refl
@@ -48,19 +48,19 @@ numbered_empty n k (s ∷ slots) h =
     ap (λ x. with_entry k x (numbered (k + 1) (map page_of slots))) h.0.unmapped ∙ numbered_empty n (k + 1) slots h.1
 
 -- empty slots make the state without pages
-pub state_of_empty : (n : ℕ) (slots : List Slot) → AllByRecursion (IsEmptySlot n) slots → state_of slots ≡ empty
-state_of_empty n slots h = ap from_entries (numbered_empty n 0 slots h)
+pub slots_state_empty : (n : ℕ) (slots : List Slot) → AllByRecursion (IsEmptySlot n) slots → slots_state slots ≡ empty
+slots_state_empty n slots h = ap from_entries (numbered_empty n 0 slots h)
 
 -- One more start page. They are mapped from the last one on, as the map of their entries is made.
-pub start_page_mapped : (n : ℕ) (slots : List Slot) (start : List StartPage) (j : ℕ) (p d : StartPage) (s : Slot) → j < length start → p ≡ get_or start j d → p.page.0 < length slots → page_of s ≡ Some (new_page n p.kind) → state_of slots ≡ start_state n (drop (j + 1) start) → state_of (set slots p.page.0 s) ≡ start_state n (drop j start)
+pub start_page_mapped : (n : ℕ) (slots : List Slot) (start : List StartPage) (j : ℕ) (p d : StartPage) (s : Slot) → j < length start → p ≡ get_or start j d → p.page.0 < length slots → page_of s ≡ Some (new_page n p.kind) → slots_state slots ≡ start_state n (drop (j + 1) start) → slots_state (set slots p.page.0 s) ≡ start_state n (drop j start)
 start_page_mapped n slots start j p d s h e k m r =
     let whole : drop j start ≡ p ∷ drop (j + 1) start = rw (add-one, drop-cons start j d) (ap (λ x. x ∷ drop (suc j) start) (sym e)) in
-    state_of-set slots p.page.0 s k ∙ ap (with_page (state_of slots) p.page.0) m ∙ ap (λ t. insert t p.page.0 (new_page n p.kind)) r ∙ ap (start_state n) (sym whole)
+    slots_state-set slots p.page.0 s k ∙ ap (with_page (slots_state slots) p.page.0) m ∙ ap (λ t. insert t p.page.0 (new_page n p.kind)) r ∙ ap (start_state n) (sym whole)
 
 -- a step of the loop that maps the start pages
 pub record IsMappedFrom (g : Sizes) (slots : List Slot) (start : List StartPage) (left : ℕ) : Type 0 where
   pub each : AllByRecursion (IsSlot g.cells) slots
-  pub state : state_of slots ≡ start_state g.cells (drop left start)
+  pub state : slots_state slots ≡ start_state g.cells (drop left start)
 
 pub start_step : (g : Sizes) (slots : List Slot) (start : List StartPage) (left : ℕ) (p d : StartPage) (own new : Slot) → AreStartPages g start → length slots ≡ g.pages → 0 < left → left ≤ length start → IsMappedFrom g slots start left → p ≡ get_or start (left - 1) d → page_of new ≡ Some (new_page (length (get_or slots p.page.0 own).cells.items) p.kind) → IsSlot (length (get_or slots p.page.0 own).cells.items) new → IsMappedFrom g (set slots p.page.0 new) start (left - 1)
 start_step g slots start left p d own new are count more within done e page slot =
@@ -81,10 +81,10 @@ pub answer_of_slot : (a : PlainMachine) (g : Sizes) (slots : List Slot) (k : ℕ
 answer_of_slot a g slots k s call refused v each lt e =
     let own : IsSlot g.cells s = subst (IsSlot g.cells) (sym e) (all_at (IsSlot g.cells) slots each k s lt) in
     ap (λ n. answer n (page_of s) call refused) own.cells
-    ∙ ap (λ m. answer g.cells m call refused) (sym (page_at-state_of slots k s lt e))
+    ∙ ap (λ m. answer g.cells m call refused) (sym (page_at-slots_state slots k s lt e))
     ∙ ap (λ b. answer b.sizes.cells (page_at b.state k) call refused) v
 
 -- the state after a new slot holds the page that the answer leaves
-pub state_after : (a : PlainMachine) (g : Sizes) (slots : List Slot) (k : ℕ) (new : Slot) (p : Page) → machine g slots ≡ a → k < length slots → page_of new ≡ p → state_of (set slots k new) ≡ with_page a.state k p
+pub state_after : (a : PlainMachine) (g : Sizes) (slots : List Slot) (k : ℕ) (new : Slot) (p : Page) → machine g slots ≡ a → k < length slots → page_of new ≡ p → slots_state (set slots k new) ≡ with_page a.state k p
 state_after a g slots k new p v lt e =
-    state_of-set slots k new lt ∙ ap (with_page (state_of slots) k) e ∙ ap (λ b. with_page b.state k p) v
+    slots_state-set slots k new lt ∙ ap (with_page (slots_state slots) k) e ∙ ap (λ b. with_page b.state k p) v

@@ -98,8 +98,8 @@ device_answer s d refused (Some (requests.State addr count)) = state_answer s d 
 -- the plugged blocks behind an acknowledged request
 abbrev pub plugged_after : Sizes → List ℕ → Option Request → List ℕ
 plugged_after s plugged None = plugged
-plugged_after s plugged (Some (requests.Plug addr count)) = with_range (block_at s addr) count s.managed plugged
-plugged_after s plugged (Some (requests.Unplug addr count)) = without_range (block_at s addr) count s.managed plugged
+plugged_after s plugged (Some (requests.Plug addr count)) = with_range (block_at s addr) count plugged
+plugged_after s plugged (Some (requests.Unplug addr count)) = without_range (block_at s addr) count plugged
 plugged_after s plugged (Some requests.UnplugAll) = []
 plugged_after s plugged (Some (requests.State addr count)) = plugged
 

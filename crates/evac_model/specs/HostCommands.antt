@@ -1,11 +1,11 @@
 -- What the host's commands do to the memory device and to the frame space, and what they give. No listener is
 -- there to refuse, and no request asks the backing.
-use Rattle.std.specs.Prelude.{◌≡◌, ℕ, zero, suc, Bool, true, false, if◌then◌else◌, List, [], ◌∷◌, ◌++◌, map, Option, None, Some}
+use Rattle.std.specs.Prelude.{◌≡◌, ℕ, suc, Bool, true, false, if◌then◌else◌, List, [], ◌∷◌, ◌++◌, map, Option, None, Some}
 use Rattle.std.specs.List.{range_with_len, zip}
 use Rattle.evac_model.specs.declared.device.Request.{Request}
 use Rattle.evac_model.specs.declared.device.Request.TheVariants.{Plug, Unplug, UnplugAll, State}
 use Rattle.evac_model.specs.declared.device.Response.{Response}
-use Rattle.evac_model.specs.declared.device.Response.TheVariants.{Ack, Nack, Busy, Error}
+use Rattle.evac_model.specs.declared.device.Response.TheVariants.{Ack}
 use Rattle.evac_model.specs.declared.device_journal.DeviceAct.{DeviceAct}
 use Rattle.evac_model.specs.declared.device_journal.DeviceAct.TheVariants as acts
 use Rattle.evac_model.specs.declared.device_journal.DeviceAction.{DeviceAction}

@@ -6,6 +6,7 @@ pub mod Geometry
 pub mod Page
 pub mod State
 pub mod Numbers
+pub mod Counts
 pub mod FreeRuns
 pub mod SpaceJournal
 pub mod DeviceAnswer

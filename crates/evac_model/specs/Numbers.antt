@@ -1,5 +1,5 @@
 -- Lists of numbers: those below a bound that pass a test, and which numbers stand in a list.
-use Rattle.std.specs.Prelude.{◌≡◌, ℕ, ◌+◌, Bool, false, ◌==◌, ◌&&◌, ◌||◌, not, nat_le, nat_lt, List, [], ◌∷◌, filter}
+use Rattle.std.specs.Prelude.{◌≡◌, ℕ, ◌+◌, max, Bool, false, ◌==◌, ◌&&◌, ◌||◌, not, nat_le, nat_lt, List, [], ◌∷◌, filter}
 use Rattle.std.specs.List.{range_with_len}
 
 -- the numbers below n that pass a test, rising
@@ -15,13 +15,22 @@ is_in b (x ∷ xs) = b == x || is_in b xs
 abbrev pub is_between : (first last b : ℕ) → Bool
 is_between first last b = nat_le first b && nat_lt b last
 
--- the numbers below a bound that stand in a list or in a range of n, rising
-abbrev pub with_range : (first n bound : ℕ) → List ℕ → List ℕ
-with_range first n bound xs = numbers_where (λ b. is_in b xs || is_between first (first + n) b) bound
+-- the least number above all of a list
+abbrev pub end_of : List ℕ → ℕ
+end_of [] = 0
+end_of (x ∷ xs) = max (x + 1) (end_of xs)
 
--- the numbers below a bound that stand in a list and not in a range of n, rising
-abbrev pub without_range : (first n bound : ℕ) → List ℕ → List ℕ
-without_range first n bound xs = numbers_where (λ b. is_in b xs && not (is_between first (first + n) b)) bound
+-- the numbers of two lists, rising
+abbrev pub united : List ℕ → List ℕ → List ℕ
+united xs ys = numbers_where (λ b. is_in b xs || is_in b ys) (max (end_of xs) (end_of ys))
+
+-- a list with the n numbers from first on, rising
+abbrev pub with_range : (first n : ℕ) → List ℕ → List ℕ
+with_range first n xs = united xs (range_with_len first n)
+
+-- a list without the n numbers from first on
+abbrev pub without_range : (first n : ℕ) → List ℕ → List ℕ
+without_range first n xs = filter (λ b. not (is_between first (first + n) b)) xs
 
 -- the list is rising, and each of its numbers is below the bound
 abbrev pub IsRisingBelow : (bound : ℕ) → List ℕ → Type 0

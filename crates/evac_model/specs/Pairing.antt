@@ -1,6 +1,6 @@
--- How a history and a space journal go together: each caller's leases and returns are those of its calls, a
+-- How a history and a space journal go together: each owner's leases and returns are those of its calls, a
 -- lease is refused only where no frame is free, and at the end the frames out are those of the mapped pages.
-use Rattle.std.specs.Prelude.{◌≡◌, ◌≤◌, ◌⊎◌, ℕ, suc, ◌==◌, ◌&&◌, not, nat_lt, List, [], ◌∷◌, ◌++◌, length, map, filter, take, drop, Contains, Option, Some}
+use Rattle.std.specs.Prelude.{◌≡◌, ◌≤◌, ◌⊎◌, ℕ, suc, ◌==◌, ◌&&◌, not, nat_lt, List, [], ◌∷◌, ◌++◌, length, map, filter, take, drop, Contains, Some}
 use Rattle.std.specs.Option.{option_map}
 use Rattle.evac_model.specs.declared.names.BlockNo.{BlockNo}
 use Rattle.evac_model.specs.declared.names.FrameNo.{FrameNo}

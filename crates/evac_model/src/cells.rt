@@ -69,6 +69,14 @@ impl Cells {
         self.count == 0
     }
 
+    /// Whether there are 8, the most that there can be: then no more can be added.
+    pub fn is_full(&self) -> bool
+        ensures full { result ≡ (length self.now == 8) }
+        ensures most { length self.now ≤ 8 }
+    {
+        self.count as usize == Cells::MOST
+    }
+
     /// The numbers, in order.
     pub fn as_slice(&self) -> &[u64]
         ensures { result.now ≡ self.now }
@@ -76,7 +84,7 @@ impl Cells {
         &self.items[..self.count as usize]
     }
 
-    /// Adds a number at the end.
+    /// Adds a number at the end, wherever there are fewer than 8.
     pub fn push(&mut self, value: u64)
         requires { length self.old < 8 }
         ensures { self.new ≡ self.old ++ value ∷ [] }

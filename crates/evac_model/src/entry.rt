@@ -1,9 +1,10 @@
 //! The history: one entry for each call, refused or not.
 
 use crate::call::Call;
-use crate::list::Listed;
 use crate::names::PageNo;
 use crate::reply::Reply;
+use std::alloc::Global;
+use std::collections::LinkedList;
 
 /// One call as it is reported.
 #[derive(Clone, Copy, Debug, PartialEq, Eq)]
@@ -22,5 +23,5 @@ pub struct Entry {
     pub reply: Reply,
 }
 
-/// Entries, in the order of their tickets.
-pub type EntryList = Listed<Entry>;
+/// Entries, each in a node of its own, which goes from one list to another without a copy.
+pub type EntryList = LinkedList<Entry, Global>;

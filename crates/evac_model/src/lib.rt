@@ -7,6 +7,8 @@ mod cells;
 mod device;
 mod device_journal;
 mod entry;
+mod evacuation;
+mod fault;
 mod geometry;
 mod host;
 mod laws;
@@ -24,6 +26,8 @@ pub use cells::Cells;
 pub use device::{Config, Request, Response, STATE_MIXED, STATE_PLUGGED, STATE_UNPLUGGED};
 pub use device_journal::{DeviceAct, DeviceAction, Notice, Notices, Told};
 pub use entry::{Entry, EntryList};
+pub use evacuation::{EvacCause, MoveLease};
+pub use fault::{CallCount, Failed, count_up};
 pub use geometry::{Geometry, GeometryFault};
 pub use host::{CommandList, HostCommand, HostLine, HostResult, HostRun, HostRunList};
 pub use laws::{
@@ -31,7 +35,7 @@ pub use laws::{
     leases_of_a_small_machine, legal_push, legal_tickets, numbers_that_pass, pages_stay_in_size,
     pairings_of_a_small_machine, refusal_changes_nothing, runs_of_a_small_machine,
 };
-pub use list::{BlockList, ByteList, Listed, NumberList};
+pub use list::{BlockList, ByteList, Listed, NumberList, first_node};
 pub use names::{BlockNo, FrameNo, Kind, OutOfMemory, PageNo};
 pub use plain::Plain;
 pub use reply::Reply;
@@ -41,6 +45,3 @@ pub use scenario::{
     StartPageList, Turn, TurnList,
 };
 pub use space::{IsolateFault, LeaseFault, NotEmpty, SpaceAction, Unmovable};
-
-#[cfg(test)]
-mod tests;

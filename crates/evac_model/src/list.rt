@@ -1,7 +1,12 @@
 //! Small lists that contracts see as plain lists.
 
+ghost use Rattle.std.specs.Prelude.{◌≡◌, ◌<◌, take, drop, length};
+
 use crate::names::BlockNo;
+use std::alloc::Global;
+use std::collections::LinkedList;
 use std::marker::Model;
+use std::mem;
 
 /// A list, made from a `Vec` and giving it back without taking memory. Contracts see its items
 /// alone, so that a value that holds one can be compared with a value of a definition.
@@ -77,3 +82,15 @@ pub type NumberList = Listed<u64>;
 
 /// Managed blocks, rising.
 pub type BlockList = Listed<BlockNo>;
+
+/// Takes the first node off a list. It takes no memory, and constant time.
+pub fn first_node<T: Drop>(list: &mut LinkedList<T, Global>) -> LinkedList<T, Global>
+    requires { 0 < length list.old }
+    ensures node { result ≡ take 1 list.old }
+    ensures rest { list.new ≡ drop 1 list.old }
+{
+    match list.split_off(1) {
+        Ok(rest) => mem::replace(list, rest),
+        Err(_) => unreachable!(),
+    }
+}

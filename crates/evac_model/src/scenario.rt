@@ -85,7 +85,8 @@ pub enum LineCause {
     Empty,
     /// The word that says what the line asks for is none that scenarios have.
     Word,
-    /// That word is one that scenarios have and this program doesn't read yet.
+    /// The line asks for what scenarios have and this program doesn't do yet: by a word of that kind,
+    /// or by a request of the host that unplugs.
     Later,
     /// The line isn't spelled as one of its kind.
     Form,

@@ -1,42 +1,32 @@
 -- Frames that are given one after another.
-use Rattle.std.proofs.Common.{◌≡◌, ℕ, ◌+◌, ◌<◌, ◌≤◌, Bool, true, false, ◌||◌, ◌&&◌, not, cond, List, [], ◌∷◌, ◌++◌, take, drop, reverse, length, get_or, refl, sym, ap, subst, ◌∙◌, arith, inl, inr}
+use Rattle.std.proofs.Common.{◌≡◌, ℕ, ◌+◌, ◌<◌, ◌≤◌, Bool, true, false, ◌||◌, ◌&&◌, not, cond, List, [], ◌∷◌, ◌++◌, take, drop, reverse, length, get_or, refl, sym, ap, subst, ◌∙◌, arith}
 use Rattle.std.specs.List.{list_any, concat, filter}
 use Rattle.std.proofs.Math.Dec.{eqb}
-use Rattle.std.proofs.lemmas.Bool.Decides.{nat_tests}
-use Rattle.std.proofs.lemmas.Bool.{false≢true, cases_eq, eq-eqb, ne_eqb, eqb-true, and_left, or_from, or_left}
+use Rattle.std.proofs.lemmas.Bool.{false≢true, eqb-true, and_left, or_from, or_left}
 use Rattle.std.proofs.lemmas.List.Folds.{list_any_more, list_any_at, concat-append}
 use Rattle.std.proofs.lemmas.List.{take-append-drop, drop_more, take_more, take_all, reverse-append, reverse-reverse, length-reverse, length-take-le}
 use Rattle.evac_model.specs.Geometry.{frame_count}
-use Rattle.evac_model.specs.Numbers.{numbers_where, is_in, is_between, IsRisingBelow}
+use Rattle.evac_model.specs.Numbers.{numbers_where, is_in, is_between}
 use Rattle.evac_model.specs.SpaceJournal.{is_frame_in}
-use Rattle.evac_model.proofs.Numbers.{numbers_agree, is_in-numbers_where}
+use Rattle.evac_model.proofs.Numbers.{numbers_agree, is_in-numbers_where, numbers_rising}
 use Rattle.buddy.specs.FreeFrames.{FreeFrames, with_frames, AreApart}
 use Rattle.frame_cache.specs.Drains.{AreDistinct, AreRising, IsGivable, IsDrainable, IsDrainableCache}
-use Rattle.frame_cache.proofs.Fewer.{length_filter}
-use Rattle.frame_cache.proofs.Members.{is_in_more, is_in-append, is_in-reverse, is_in-get_or, is_in_before, is_in-concat, distinct_left, distinct_right, distinct_apart, distinct-reverse}
+use Rattle.frame_cache.proofs.Members.{is_in_more, is_in-reverse, is_in-get_or, is_in_before, is_in-concat, distinct_left, distinct_right, distinct_apart, distinct-reverse}
+use Rattle.evac_model.proofs.Filters.{length-filter-le}
+use Rattle.evac_model.proofs.Ranges.{between_one}
+use Rattle.std.proofs.Math.Bool.{or-false, and-or_distrib_right}
+use Rattle.evac_model.proofs.Members.{is_in-append}
 
 -- the same frames
-with_same : (p q : ℕ → Bool) (r : FreeFrames) → ((f : ℕ) → p f ≡ q f) → with_frames p r ≡ with_frames q r
-with_same p q r same = ap (λ (t : ℕ → Bool). with_frames t r) (λ i f. same f i)
-
--- a range of one frame
-between_one : (b f : ℕ) → is_between b (b + 1) f ≡ eqb f b
-between_one b f =
-    elim (cases_eq f b) [
-      | inl e ↦ (let inside : is_between b (b + 1) f ≡ true = grind (arith, nat_tests) in inside) ∙ sym (eq-eqb f b e)
-      | inr ne ↦ (let outside : is_between b (b + 1) f ≡ false = grind (arith, nat_tests) in outside) ∙ sym (ne_eqb f b ne)
-    ]
+pub with_frames_same : (p q : ℕ → Bool) (r : FreeFrames) → ((f : ℕ) → p f ≡ q f) → with_frames p r ≡ with_frames q r
+with_frames_same p q r same = ap (λ (t : ℕ → Bool). with_frames t r) (λ i f. same f i)
 
 pub with_one : (b : ℕ) (r : FreeFrames) → with_frames (is_between b (b + 1)) r ≡ with_frames (λ f. eqb f b) r
-with_one b r = with_same (is_between b (b + 1)) (λ f. eqb f b) r (between_one b)
+with_one b r = with_frames_same (is_between b (b + 1)) (λ f. eqb f b) r (λ f. between_one b f)
 
 -- no frames
 or_none : (x p v : Bool) → p ≡ false → (x || (p && v)) ≡ x
-or_none x p v none = ap (λ (t : Bool). x || (t && v)) none ∙ or_false x
-  where
-    or_false : (x : Bool) → (x || false) ≡ x
-    or_false true = refl
-    or_false false = refl
+or_none x p v none = ap (λ (t : Bool). x || (t && v)) none ∙ or-false x
 
 pub with_none : (p : ℕ → Bool) (r : FreeFrames) → AreRising r → ((f : ℕ) → p f ≡ false) → with_frames p r ≡ r
 with_none p r rising none =
@@ -48,9 +38,6 @@ with_none p r rising none =
     λ i. record r { free = free i; aside = aside i }
 
 -- the lists stay rising
-numbers_rising : (p : ℕ → Bool) (n : ℕ) → IsRisingBelow n (numbers_where p n)
-numbers_rising p n = numbers_agree _ _ n (λ f l. sym (is_in-numbers_where p n f l))
-
 pub rising-from_apart : (r : FreeFrames) → AreApart r → AreRising r
 rising-from_apart r apart = record { within = apart.within; free = apart.free; aside = apart.aside }
 
@@ -109,12 +96,12 @@ given_more t r₀ r₁ r₂ xs i x within is passes before after =
     after
     ∙ (ap (with_frames (λ f. eqb f x)) before
     ∙ (with_both (λ f. is_in f (take i xs) && t f) (λ f. eqb f x) r₀
-    ∙ with_same _ _ r₀ (λ f. and_here (is_in f (take i xs)) (eqb f x) (t f) (λ e. ap t (eqb-true f x e) ∙ passes) ∙ ap (λ (b : Bool). b && t f) (ap (λ (z : ℕ). is_in f (take i xs) || eqb f z) is ∙ sym (is_in_more f xs i within)))))
+    ∙ with_frames_same _ _ r₀ (λ f. and_here (is_in f (take i xs)) (eqb f x) (t f) (λ e. ap t (eqb-true f x e) ∙ passes) ∙ ap (λ (b : Bool). b && t f) (ap (λ (z : ℕ). is_in f (take i xs) || eqb f z) is ∙ sym (is_in_more f xs i within)))))
 
 pub given_same : (t : ℕ → Bool) (r₀ r₁ : FreeFrames) (xs : List ℕ) (i x : ℕ) → i < length xs → x ≡ get_or xs i 0 → t x ≡ false → r₁ ≡ with_frames (λ f. is_in f (take i xs) && t f) r₀ → r₁ ≡ with_frames (λ f. is_in f (take (i + 1) xs) && t f) r₀
 given_same t r₀ r₁ xs i x within is fails before =
     before
-    ∙ with_same _ _ r₀ (λ f. and_elsewhere (is_in f (take i xs)) (eqb f x) (t f) (λ e. ap t (eqb-true f x e) ∙ fails) ∙ ap (λ (b : Bool). b && t f) (ap (λ (z : ℕ). is_in f (take i xs) || eqb f z) is ∙ sym (is_in_more f xs i within)))
+    ∙ with_frames_same _ _ r₀ (λ f. and_elsewhere (is_in f (take i xs)) (eqb f x) (t f) (λ e. ap t (eqb-true f x e) ∙ fails) ∙ ap (λ (b : Bool). b && t f) (ap (λ (z : ℕ). is_in f (take i xs) || eqb f z) is ∙ sym (is_in_more f xs i within)))
 
 -- the next frame of a cache can be given
 pub givable_next : (t : ℕ → Bool) (r₀ r₁ : FreeFrames) (xs : List ℕ) (i x : ℕ) → IsDrainableCache xs r₀ → i < length xs → x ≡ get_or xs i 0 → r₁ ≡ with_frames (λ f. is_in f (take i xs) && t f) r₀ → IsGivable r₁ x
@@ -128,19 +115,13 @@ drainable-reverse cache r h =
     record { distinct = distinct-reverse cache h.distinct; givable = λ f there. h.givable f (sym (is_in-reverse f cache) ∙ there) }
 
 -- the next cache, and what it gives
-and_both : (a b t : Bool) → ((a && t) || (b && t)) ≡ ((a || b) && t)
-and_both true true true = refl
-and_both true true false = refl
-and_both true false true = refl
-and_both true false false = refl
-and_both false b t = refl
 
 pub caches_given_more : (t : ℕ → Bool) (r₀ r₁ r₂ : FreeFrames) (xss : List (List ℕ)) (i : ℕ) → i < length xss → r₁ ≡ with_frames (λ f. list_any (is_in f) (take i xss) && t f) r₀ → r₂ ≡ with_frames (λ f. is_in f (get_or xss i []) && t f) r₁ → r₂ ≡ with_frames (λ f. list_any (is_in f) (take (i + 1) xss) && t f) r₀
 caches_given_more t r₀ r₁ r₂ xss i within before after =
     after
     ∙ (ap (with_frames (λ f. is_in f (get_or xss i []) && t f)) before
     ∙ (with_both (λ f. list_any (is_in f) (take i xss) && t f) (λ f. is_in f (get_or xss i []) && t f) r₀
-    ∙ with_same _ _ r₀ (λ f. and_both (list_any (is_in f) (take i xss)) (is_in f (get_or xss i [])) (t f) ∙ ap (λ (b : Bool). b && t f) (sym (list_any_more (is_in f) xss i [] within)))))
+    ∙ with_frames_same _ _ r₀ (λ f. sym (and-or_distrib_right (list_any (is_in f) (take i xss)) (is_in f (get_or xss i [])) (t f)) ∙ ap (λ (b : Bool). b && t f) (sym (list_any_more (is_in f) xss i [] within)))))
 
 pub drainable_next : (t : ℕ → Bool) (r₀ r₁ : FreeFrames) (xss : List (List ℕ)) (i : ℕ) → IsDrainable xss r₀ → i < length xss → r₁ ≡ with_frames (λ f. list_any (is_in f) (take i xss) && t f) r₀ → IsDrainableCache (get_or xss i []) r₁
 drainable_next t r₀ r₁ xss i h within before =
@@ -162,7 +143,7 @@ given_none t r rising = sym (with_none (λ f. false && t f) r rising (λ f. refl
 
 pub given_all : (t : ℕ → Bool) (r₀ r₁ : FreeFrames) (cache xs : List ℕ) (i : ℕ) → xs ≡ reverse cache → length xs ≤ i → r₁ ≡ with_frames (λ f. is_in f (take i xs) && t f) r₀ → r₁ ≡ with_frames (λ f. is_in f cache && t f) r₀
 given_all t r₀ r₁ cache xs i is all before =
-    before ∙ with_same _ _ r₀ (λ f. ap (λ (b : Bool). b && t f) (ap (is_in f) (take_all i xs all ∙ is) ∙ is_in-reverse f cache))
+    before ∙ with_frames_same _ _ r₀ (λ f. ap (λ (b : Bool). b && t f) (ap (is_in f) (take_all i xs all ∙ is) ∙ is_in-reverse f cache))
 
 -- a cache's frames that fail the test, so far
 kept_more : (p : ℕ → Bool) (xs : List ℕ) (i x : ℕ) → i < length xs → x ≡ get_or xs i 0 → filter p (reverse (take (i + 1) xs)) ≡ cond (p x) (x ∷ filter p (reverse (take i xs))) (filter p (reverse (take i xs)))
@@ -173,7 +154,7 @@ kept_more p xs i x within is =
 
 kept_few : (p : ℕ → Bool) (xs : List ℕ) (i x : ℕ) → i < length xs → length xs ≤ 8 → take 8 (x ∷ filter p (reverse (take i xs))) ≡ x ∷ filter p (reverse (take i xs))
 kept_few p xs i x within few =
-    take_all 8 (x ∷ filter p (reverse (take i xs))) (omega (arith, length_filter p (reverse (take i xs)), length-reverse (take i xs), length-take-le i xs (omega arith)))
+    take_all 8 (x ∷ filter p (reverse (take i xs))) (omega (arith, length-filter-le p (reverse (take i xs)), length-reverse (take i xs), length-take-le i xs (omega arith)))
 
 -- kept is the cache of those frames before, and behind is that after one frame more
 pub kept_without : (t : ℕ → Bool) (kept xs : List ℕ) (i x : ℕ) → i < length xs → x ≡ get_or xs i 0 → t x ≡ true → kept ≡ filter (λ f. not (t f)) (reverse (take i xs)) → kept ≡ filter (λ f. not (t f)) (reverse (take (i + 1) xs))

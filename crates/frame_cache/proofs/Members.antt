@@ -6,25 +6,8 @@ use Rattle.std.proofs.lemmas.Bool.{eqb-true, eq-eqb, or_parts, or_from, or_left,
 use Rattle.std.proofs.lemmas.List.{take_more, drop_more, take-append-drop, reverse-append}
 use Rattle.evac_model.specs.Numbers.{is_in}
 use Rattle.frame_cache.specs.Drains.{AreDistinct}
-
-or_assoc : (x y z : Bool) → (x || (y || z)) ≡ ((x || y) || z)
-or_assoc true y z = refl
-or_assoc false y z = refl
-
-or_comm_false : (x : Bool) → x ≡ (x || false)
-or_comm_false true = refl
-or_comm_false false = refl
-
-or_turn : (x y : Bool) → (x || y) ≡ (y || (x || false))
-or_turn true true = refl
-or_turn true false = refl
-or_turn false true = refl
-or_turn false false = refl
-
-pub is_in-append : (b : ℕ) (xs ys : List ℕ) → is_in b (xs ++ ys) ≡ (is_in b xs || is_in b ys)
-is_in-append b [] ys = refl
-is_in-append b (x ∷ xs) ys =
-    ap (λ (t : Bool). eqb b x || t) (is_in-append b xs ys) ∙ or_assoc (eqb b x) (is_in b xs) (is_in b ys)
+use Rattle.std.proofs.Math.Bool.{or-false, or_comm}
+use Rattle.evac_model.proofs.Members.{is_in-append}
 
 reverse_cons : (x : ℕ) (xs : List ℕ) → reverse (x ∷ xs) ≡ reverse xs ++ x ∷ []
 reverse_cons x xs = reverse-append (x ∷ []) xs
@@ -32,12 +15,12 @@ reverse_cons x xs = reverse-append (x ∷ []) xs
 pub is_in-reverse : (b : ℕ) (xs : List ℕ) → is_in b (reverse xs) ≡ is_in b xs
 is_in-reverse b [] = refl
 is_in-reverse b (x ∷ xs) =
-    ap (is_in b) (reverse_cons x xs) ∙ (is_in-append b (reverse xs) (x ∷ []) ∙ (ap (λ (t : Bool). t || (eqb b x || false)) (is_in-reverse b xs) ∙ sym (or_turn (eqb b x) (is_in b xs))))
+    ap (is_in b) (reverse_cons x xs) ∙ (is_in-append b (reverse xs) (x ∷ []) ∙ (ap (λ (t : Bool). t || (eqb b x || false)) (is_in-reverse b xs) ∙ ap (λ (t : Bool). is_in b xs || t) (or-false (eqb b x)) ∙ or_comm (is_in b xs) (eqb b x)))
 
 -- one more number of a list
 pub is_in_more : (b : ℕ) (xs : List ℕ) (i : ℕ) → i < length xs → is_in b (take (i + 1) xs) ≡ (is_in b (take i xs) || eqb b (get_or xs i 0))
 is_in_more b xs i within =
-    ap (is_in b) (take_more xs i 0 within) ∙ (is_in-append b (take i xs) (get_or xs i 0 ∷ []) ∙ ap (λ (t : Bool). is_in b (take i xs) || t) (sym (or_comm_false (eqb b (get_or xs i 0)))))
+    ap (is_in b) (take_more xs i 0 within) ∙ (is_in-append b (take i xs) (get_or xs i 0 ∷ []) ∙ ap (λ (t : Bool). is_in b (take i xs) || t) (or-false (eqb b (get_or xs i 0))))
 
 -- the numbers of all lists
 pub is_in-concat : (b : ℕ) (xss : List (List ℕ)) → is_in b (concat xss) ≡ list_any (is_in b) xss

@@ -1,33 +1,30 @@
 -- What a device does when it answers, over plain values.
-use Rattle.std.proofs.Common.{◌≡◌, ℕ, ◌+◌, ◌*◌, ◌<◌, ◌≤◌, Bool, true, false, not, ◌&&◌, ◌||◌, ◌↔◌, List, [], length, Option, Some, None, refl, sym, ap, subst, ◌∙◌, arith, inl, inr}
+use Rattle.std.proofs.Common.{◌≡◌, ℕ, ◌+◌, ◌*◌, ◌<◌, ◌≤◌, true, false, not, ◌&&◌, ◌||◌, List, [], length, Option, Some, refl, sym, ap, ◌∙◌, arith, inl, inr}
 use Rattle.std.specs.List.{range_with_len}
-use Rattle.std.proofs.lemmas.Bool.{cases_lt}
+use Rattle.std.proofs.lemmas.Bool.{cases_lt, and_parts}
 use Rattle.std.proofs.lemmas.Nat.{mul-le}
-use Rattle.std.proofs.Math.Nat.{pow-le-pow_right}
+use Rattle.std.proofs.lemmas.List.{nil_from_length}
 use Rattle.evac_model.specs.declared.device.Request.TheVariants.{Unplug, UnplugAll}
 use Rattle.evac_model.specs.declared.device.Response.TheVariants.{Ack}
 use Rattle.evac_model.specs.Geometry.{Sizes, IsWithinLimits, block_bytes}
-use Rattle.evac_model.specs.GeometryLimits.{IsPowerTo512}
-use Rattle.evac_model.specs.Numbers.{is_in, is_between, numbers_where, with_range, without_range, IsRisingBelow}
+use Rattle.evac_model.specs.Numbers.{is_in, is_between, united, with_range, without_range, IsRisingBelow}
 use Rattle.evac_model.specs.DeviceAnswer.{DeviceState, block_at, is_good_range, are_plugged, are_unplugged, state_answer}
-use Rattle.evac_model.proofs.Numbers.{numbers_agree, is_in-numbers_where, numbers_where-none}
-use Rattle.evac_model.proofs.Ranges.{between_inside, between_below, between_above}
+use Rattle.evac_model.proofs.Bounds.{power_to_512_least}
+use Rattle.evac_model.proofs.Numbers.{numbers_where-none}
+use Rattle.evac_model.proofs.Ranges.{between_below, between_above}
 use Rattle.block_map.specs.Blocks.{state_told}
 use Rattle.block_map.proofs.States.{all_plugged, none_plugged}
-use Rattle.dma_listeners.specs.BlockLists.{united, without_blocks}
-use Rattle.dma_listeners.specs.Calls.{Calls}
+use Rattle.evac_model.specs.Counts.{Calls}
 use Rattle.evac_model.specs.DeviceAnswer.{unplugged_blocks}
 use Rattle.mem_device.specs.Answering.{IsAnswer, asks_backing, named_blocks}
 use Rattle.mem_device.specs.Managed.{IsManaged}
 use Rattle.mem_device.specs.declared.memory.Memory.{Memory}
-use Rattle.mem_device.proofs.Blocks.{is_in-range, without_none, numbers-range}
+use Rattle.evac_model.proofs.Members.{is_in-range_with_len}
+use Rattle.evac_model.proofs.Unions.{with_range-below, without_none, numbers-range}
 use Rattle.mem_device.proofs.Hands.{is_in-unplugged, hand_with-range, hand_with-all, hand_with-none, hand_without-range, without_region}
-use Rattle.mem_device.proofs.Ranges.{size_none, no_length}
+use Rattle.mem_device.proofs.Ranges.{size_none}
 
--- those below a bound that pass a test are rising
-pub numbers_rising : (test : ℕ → Bool) (m : ℕ) → IsRisingBelow m (numbers_where test m)
-numbers_rising test m = numbers_agree test (λ b. is_in b (numbers_where test m)) m (λ b l. sym (is_in-numbers_where test m b l))
-
+-- no blocks are rising
 pub none_rising : (m : ℕ) → IsRisingBelow m []
 none_rising m = sym (numbers_where-none (λ b. is_in b []) m (λ b. refl))
 
@@ -45,57 +42,46 @@ has_unplugged s plugged merged first n m none inside b f l =
     ap (is_in b) m ∙ is_in-unplugged s plugged b (omega arith) ∙ ap not (none_plugged plugged first n none b f l)
 
 -- the hand behind a PLUG
-pub parted : (s : Sizes) (plugged merged left : List ℕ) (first n : ℕ) → merged ≡ unplugged_blocks s plugged → left ≡ without_blocks first n merged → left ≡ unplugged_blocks s (with_range first n s.managed plugged)
-parted s plugged merged left first n m l = l ∙ ap (without_blocks first n) m ∙ hand_without-range s plugged first n
+pub parted : (s : Sizes) (plugged merged left : List ℕ) (first n : ℕ) → merged ≡ unplugged_blocks s plugged → left ≡ without_range first n merged → left ≡ unplugged_blocks s (with_range first n plugged)
+parted s plugged merged left first n m l = l ∙ ap (without_range first n) m ∙ hand_without-range s plugged first n
 
 -- the hand behind an UNPLUG, and behind an UNPLUG_ALL
-pub taken : (s : Sizes) (plugged hand held merged left : List ℕ) (first n : ℕ) → first + n ≤ s.managed → hand ≡ unplugged_blocks s plugged → held ≡ range_with_len first n → merged ≡ united hand held → left ≡ without_blocks 0 0 merged → left ≡ unplugged_blocks s (without_range first n s.managed plugged)
+pub taken : (s : Sizes) (plugged hand held merged left : List ℕ) (first n : ℕ) → first + n ≤ s.managed → hand ≡ unplugged_blocks s plugged → held ≡ range_with_len first n → merged ≡ united hand held → left ≡ without_range 0 0 merged → left ≡ unplugged_blocks s (without_range first n plugged)
 taken s plugged hand held merged left first n inside h r m l =
-    l ∙ without_none merged ∙ m ∙ rw (h, r) (hand_with-range s plugged first n inside)
+    l ∙ without_none 0 merged ∙ m ∙ rw (h, r) (hand_with-range s plugged first n inside)
 
-pub taken_all : (s : Sizes) (plugged hand held merged left : List ℕ) → IsRisingBelow s.managed plugged → hand ≡ unplugged_blocks s plugged → held ≡ plugged → merged ≡ united hand held → left ≡ without_blocks 0 0 merged → left ≡ unplugged_blocks s []
+pub taken_all : (s : Sizes) (plugged hand held merged left : List ℕ) → IsRisingBelow s.managed plugged → hand ≡ unplugged_blocks s plugged → held ≡ plugged → merged ≡ united hand held → left ≡ without_range 0 0 merged → left ≡ unplugged_blocks s []
 taken_all s plugged hand held merged left rising h r m l =
-    l ∙ without_none merged ∙ m ∙ rw (h, r) (hand_with-all s plugged rising)
+    l ∙ without_none 0 merged ∙ m ∙ rw (h, r) (hand_with-all s plugged rising)
 
 -- the region is cleared
-pub region_cleared : (n m : ℕ) (plugged after : List ℕ) → n ≡ m → IsRisingBelow m plugged → after ≡ without_range 0 n m plugged → after ≡ []
-region_cleared n m plugged after e r a = a ∙ ap (λ (k : ℕ). without_range 0 k m plugged) e ∙ without_region m plugged r
+pub region_cleared : (n m : ℕ) (plugged after : List ℕ) → n ≡ m → IsRisingBelow m plugged → after ≡ without_range 0 n plugged → after ≡ []
+region_cleared n m plugged after e r a = a ∙ ap (λ (k : ℕ). without_range 0 k plugged) e ∙ without_region m plugged r
 
 -- the blocks that come with an UNPLUG that gets as far as the backing
-and_left : (p q : Bool) → (p && q) ≡ true → p ≡ true
-and_left true q h = refl
-and_left false q h = h
-
-and_right : (p q : Bool) → (p && q) ≡ true → q ≡ true
-and_right true q h = h
-and_right false q h = cc
-
 pub named_unplug : (s : Sizes) (d : DeviceState) (addr count : ℕ) → asks_backing s d (Some (Unplug addr count)) ≡ true → named_blocks s d.plugged (Some (Unplug addr count)) ≡ range_with_len (block_at s addr) count
 named_unplug s d addr count asks =
-    let good : is_good_range s addr count ≡ true = and_left (is_good_range s addr count) (are_plugged d.plugged (block_at s addr) count && not d.migrating) asks in
-    let rest : (are_plugged d.plugged (block_at s addr) count && not d.migrating) ≡ true = and_right (is_good_range s addr count) (are_plugged d.plugged (block_at s addr) count && not d.migrating) asks in
-    let plugged : are_plugged d.plugged (block_at s addr) count ≡ true = and_left (are_plugged d.plugged (block_at s addr) count) (not d.migrating) rest in
+    let parts = and_parts (is_good_range s addr count) (are_plugged d.plugged (block_at s addr) count && not d.migrating) asks in
+    let good = parts.0 in
+    let plugged = (and_parts (are_plugged d.plugged (block_at s addr) count) (not d.migrating) parts.1).0 in
     rw (good, plugged) refl
 
 pub range_plugged : (plugged : List ℕ) (first n b : ℕ) → are_plugged plugged first n ≡ true → is_in b (range_with_len first n) ≡ true → is_in b plugged ≡ true
 range_plugged plugged first n b all h =
     elim (cases_lt b first) [
-      | inl l ↦ let x : true ≡ false = sym h ∙ is_in-range first n b ∙ between_below first (first + n) b l in cc
+      | inl l ↦ let x : true ≡ false = sym h ∙ is_in-range_with_len b first n ∙ between_below first (first + n) b l in cc
       | inr f ↦ elim (cases_lt b (first + n)) [
         | inl l ↦ all_plugged plugged first n all b f l
-        | inr g ↦ let x : true ≡ false = sym h ∙ is_in-range first n b ∙ between_above first (first + n) b g in cc
+        | inr g ↦ let x : true ≡ false = sym h ∙ is_in-range_with_len b first n ∙ between_above first (first + n) b g in cc
       ]
     ]
 
 -- no block is plugged where no byte is
-power_pos : (n : ℕ) → IsPowerTo512 n → 1 ≤ n
-power_pos n p = omega (arith, p.2, pow-le-pow_right {n = 2} (omega arith) {i = 0} {j = p.0} (omega arith))
-
 bytes_pos : (s : Sizes) → IsWithinLimits s → 0 < block_bytes s
-bytes_pos s w = mul-le 1 1 (s.cells * 8) s.block (omega (arith, power_pos s.cells w.cells)) (power_pos s.block w.block)
+bytes_pos s w = mul-le 1 1 (s.cells * 8) s.block (omega (arith, power_to_512_least s.cells w.cells)) (power_to_512_least s.block w.block)
 
 pub no_bytes : (s : Sizes) (plugged : List ℕ) → IsWithinLimits s → length plugged * block_bytes s ≡ 0 → plugged ≡ []
-no_bytes s plugged w e = no_length plugged (size_none (length plugged) (block_bytes s) (bytes_pos s w) e)
+no_bytes s plugged w e = nil_from_length plugged (size_none (length plugged) (block_bytes s) (bytes_pos s w) e)
 
 -- an UNPLUG_ALL where nothing is plugged
 pub answer_none : (s : Sizes) (d : DeviceState) (faults : ℕ) (told : Option Calls) → d.plugged ≡ [] → IsAnswer s d (Some UnplugAll) faults faults told (Ack 0)
@@ -112,14 +98,9 @@ pub state_good : (s : Sizes) (d : DeviceState) (addr count first state : ℕ) �
 unfolding state_told
 state_good s d addr count first state good f e = rw (good, e, f) refl
 
-and_false : (p : Bool) → (p && false) ≡ false
-and_false true = refl
-and_false false = refl
-
 -- a set of a machine's blocks with just a range
-pub only_range : (first n m : ℕ) (before mid after : List ℕ) → first + n ≤ m → mid ≡ without_range 0 m m before → after ≡ with_range first n m mid → after ≡ range_with_len first n
-only_range first n m before mid after inside e a =
-    a ∙ numbers-range (λ b. is_in b mid || is_between first (first + n) b) first n m inside (λ b l.
-    ap (λ (xs : List ℕ). is_in b xs || is_between first (first + n) b) e
-    ∙ ap (λ (t : Bool). t || is_between first (first + n) b) (is_in-numbers_where (λ k. is_in k before && not (is_between 0 (0 + m) k)) m b l
-    ∙ ap (λ (t : Bool). is_in b before && not t) (between_inside 0 (0 + m) b (omega arith) (omega arith)) ∙ and_false (is_in b before)))
+pub only_range : (first n m : ℕ) (before mid after : List ℕ) → first + n ≤ m → IsRisingBelow m before → mid ≡ without_range 0 m before → after ≡ with_range first n mid → after ≡ range_with_len first n
+only_range first n m before mid after inside r e a =
+    a ∙ ap (with_range first n) (e ∙ without_region m before r)
+    ∙ with_range-below first n m [] (λ b h. refl) inside
+    ∙ numbers-range (λ b. is_in b [] || is_between first (first + n) b) first n m inside (λ b l. refl)

@@ -7,8 +7,7 @@ use Rattle.evac_model.specs.declared.device.Response.{Response}
 use Rattle.evac_model.specs.declared.device.Response.TheVariants.{Ack, Nack, Busy, Error}
 use Rattle.evac_model.specs.Geometry.{Sizes, block_bytes}
 use Rattle.evac_model.specs.DeviceAnswer.{DeviceState, block_at, is_good_range, are_plugged, are_unplugged, device_answer, range_state}
-use Rattle.dma_listeners.specs.Count.{Rose}
-use Rattle.dma_listeners.specs.Calls.{Calls}
+use Rattle.evac_model.specs.Counts.{Calls, Rose}
 use Rattle.mem_device.specs.Answering.{IsAnswer}
 
 after_three : (x y z : Bool) → (if x then Error else if y then Nack else if z then Error else Ack 0) ≢ Busy

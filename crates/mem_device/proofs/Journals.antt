@@ -1,5 +1,5 @@
 -- The state that a journal leaves.
-use Rattle.std.proofs.Common.{◌≡◌, ℕ, ◌*◌, ◌≤◌, length, List, [], ◌∷◌, ◌++◌, Option, Some, None, Result, Ok, Err, MatchResult, false, refl, sym, ap, ◌∙◌}
+use Rattle.std.proofs.Common.{◌≡◌, ℕ, ◌*◌, length, List, [], ◌∷◌, ◌++◌, Option, Some, None, Result, Ok, Err, MatchResult, false, refl, sym, ap, ◌∙◌}
 use Rattle.std.specs.List.{range_with_len}
 use Rattle.std.proofs.lemmas.List.FromFn.{length-range_with_len}
 use Rattle.evac_model.specs.declared.device.Request.{Request}

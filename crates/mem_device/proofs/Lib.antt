@@ -1,4 +1,3 @@
-pub mod Blocks
 pub mod Hands
 pub mod Ranges
 pub mod Answers

@@ -8,8 +8,7 @@ use Rattle.evac_model.specs.declared.device.Response.{Response}
 use Rattle.evac_model.specs.declared.device.Response.TheVariants.{Ack, Nack, Busy, Error}
 use Rattle.evac_model.specs.Geometry.{Sizes}
 use Rattle.evac_model.specs.DeviceAnswer.{DeviceState, block_at, is_good_range, are_plugged, device_answer}
-use Rattle.dma_listeners.specs.Count.{Rose, WhereTold}
-use Rattle.dma_listeners.specs.Calls.{Calls, after_call, IsListed}
+use Rattle.evac_model.specs.Counts.{Calls, after_call, IsListed, Rose, WhereTold}
 
 -- the plugged blocks that an UNPLUG of a good range that is all plugged, or an UNPLUG_ALL, names
 abbrev pub named_blocks : Sizes → (plugged : List ℕ) → Option Request → List ℕ

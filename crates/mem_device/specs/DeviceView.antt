@@ -1,5 +1,5 @@
 -- What is seen of a device.
-use Rattle.std.specs.Prelude.{◌≡◌, ◌≢◌, ℕ, ◌*◌, ◌%◌, ◌<◌, ◌⊎◌, List, []}
+use Rattle.std.specs.Prelude.{◌≢◌, ℕ, ◌*◌, ◌%◌, ◌<◌, ◌⊎◌, List, []}
 use Rattle.evac_model.specs.declared.device_journal.DeviceAct.TheVariants.{Requested}
 use Rattle.evac_model.specs.declared.device_journal.DeviceAction.{DeviceAction}
 use Rattle.evac_model.specs.Geometry.{Sizes, block_bytes}
@@ -13,8 +13,8 @@ pub record DeviceView (B H : Type 0) : Type 0 where
   pub hand : H
 
 -- the state that the actions leave
-abbrev pub state_of : {B H : Type 0} → DeviceView B H → DeviceState
-state_of v = device_after v.sizes (device_at_start v.sizes) v.journal
+abbrev pub device_state : {B H : Type 0} → DeviceView B H → DeviceState
+device_state v = device_after v.sizes (device_at_start v.sizes) v.journal
 
 -- the host asked for so many bytes
 abbrev pub requested_action : ℕ → DeviceAction

@@ -1,5 +1,4 @@
 -- How a hand keeps its blocks.
-use Rattle.std.specs.Prelude.{ℕ}
 use Rattle.std.specs.List.{range_with_len}
 use Rattle.mem_device.specs.HandState.{HandState}
 use Rattle.mem_device.specs.declared.hand_kind.HandKind.{HandKind}

@@ -1,5 +1,5 @@
 -- The memory that a device manages.
-use Rattle.std.specs.Prelude.{◌≡◌, ℕ, ◌≤◌, Bool, true, false, List, Option, Some, Result, Ok, Err}
+use Rattle.std.specs.Prelude.{◌≡◌, ℕ, ◌≤◌, true, false, List, Some, Result, Ok, Err}
 use Rattle.evac_model.specs.declared.names.BlockNo.{BlockNo}
 use Rattle.evac_model.specs.declared.device.Request.TheVariants as requests
 use Rattle.evac_model.specs.declared.device.Response.{Response}

@@ -36,7 +36,9 @@ impl BlockHand {
         ensures room { IfOk result (λ h. h.room ≡ g.managed) }
     {
         let mut map = BlockMap::new(alloc, g)?;
-        map.clear(BlockNo(0), g.managed());
+        // its blocks are rising
+        let managed = map.geometry().managed();
+        map.clear(BlockNo(0), managed);
         map.set(first, n);
         Ok(BlockHand {
             kind: HandKind::Set(map),

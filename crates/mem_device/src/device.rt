@@ -43,8 +43,7 @@ impl<L: Listener, B: Backing, H: Held> Device<L, B, H> {
     ghost use Rattle.evac_model.specs.DeviceAnswer.{request_in, config_of, unplugged_blocks};
     ghost use Rattle.evac_model.specs.HostCommands.{request_action};
     ghost use Rattle.mem_device.specs.Answering.{IsAnswer, IsAsked, IsBack, asks_backing, named_blocks};
-    ghost use Rattle.evac_model.specs.DeviceAnswer.{unplugged_blocks};
-    ghost use Rattle.mem_device.specs.DeviceView.{state_of, requested_action, IsBadSize};
+    ghost use Rattle.mem_device.specs.DeviceView.{device_state, requested_action, IsBadSize};
 
     /// Answers a request of at most 64 bytes (Virtio 1.2, 5.15.6). For an UNPLUG of a good range that
     /// is all plugged and for an UNPLUG_ALL, `held` has exactly the plugged blocks named, and else no
@@ -52,17 +51,17 @@ impl<L: Listener, B: Backing, H: Held> Device<L, B, H> {
     /// first; where there is none, the device is as it was.
     pub fn answer(&mut self, bytes: &[u8], held: H) -> Result<Answer<H>, NoMemory<H>>
         requires short { length bytes.now ≤ 64 }
-        requires held { H.blocks held ≡ named_blocks self.old.sizes (state_of self.old).plugged (request_in bytes.now) }
+        requires held { H.blocks held ≡ named_blocks self.old.sizes (device_state self.old).plugged (request_in bytes.now) }
 
         // The response, and the only action that the journal has more.
-        ensures response { IfOk result (λ a. IsAnswer self.old.sizes (state_of self.old) (request_in bytes.now) (B.faults self.old.backing) (B.faults self.new.backing) (B.told self.old.backing) a.response) }
+        ensures response { IfOk result (λ a. IsAnswer self.old.sizes (device_state self.old) (request_in bytes.now) (B.faults self.old.backing) (B.faults self.new.backing) (B.told self.old.backing) a.response) }
         ensures journal { IfOk result (λ a. self.new.journal ≡ self.old.journal ++ request_action bytes.now a.response ∷ []) }
 
         // Which blocks are whose.
         ensures back { IfOk result (λ a. IsBack H.blocks self.old.sizes (request_in bytes.now) a.response held a.back) }
-        ensures hand { H.blocks self.new.hand ≡ unplugged_blocks self.new.sizes (state_of self.new).plugged }
+        ensures hand { H.blocks self.new.hand ≡ unplugged_blocks self.new.sizes (device_state self.new).plugged }
 
-        ensures asked { OnOk result (IsAsked B.told (asks_backing self.old.sizes (state_of self.old) (request_in bytes.now)) self.old.backing self.new.backing) }
+        ensures asked { OnOk result (IsAsked B.told (asks_backing self.old.sizes (device_state self.old) (request_in bytes.now)) self.old.backing self.new.backing) }
         ensures counts { B.faults self.old.backing ≤ B.faults self.new.backing }
         ensures sizes { self.new.sizes ≡ self.old.sizes }
 
@@ -112,7 +111,7 @@ impl<L: Listener, B: Backing, H: Held> Device<L, B, H> {
     /// The device's configuration (Virtio 1.2, 5.15.4). The node is 0, and the usable region is the
     /// whole one.
     pub fn config(&self) -> Config
-        ensures { result ≡ config_of self.now.sizes (state_of self.now) }
+        ensures { result ≡ config_of self.now.sizes (device_state self.now) }
     {
         let g = self.memory.map.geometry();
         let _managed = g.managed();
@@ -129,14 +128,14 @@ impl<L: Listener, B: Backing, H: Held> Device<L, B, H> {
 
     /// Whether a migration is active.
     pub fn migrating(&self) -> bool
-        ensures { result ≡ (state_of self.now).migrating }
+        ensures { result ≡ (device_state self.now).migrating }
     {
         self.memory.migrating
     }
 
     /// The plugged blocks.
     pub fn plugged(&self) -> &BlockMap
-        ensures plugged { result.now.plugged ≡ (state_of self.now).plugged }
+        ensures plugged { result.now.plugged ≡ (device_state self.now).plugged }
         ensures sizes { result.now.sizes ≡ self.now.sizes }
     {
         &self.memory.map
@@ -154,7 +153,7 @@ impl<L: Listener + Drop, B: Backing + Drop, H: Held + Drop> Device<L, B, H> {
     ghost use Rattle.std.specs.Prelude.{◌≡◌, ◌≤◌, ◌-◌, [], IfOk};
     ghost use Rattle.std.specs.List.{range_with_len};
     ghost use Rattle.evac_model.specs.DeviceAnswer.{unplugged_blocks};
-    ghost use Rattle.mem_device.specs.DeviceView.{state_of};
+    ghost use Rattle.mem_device.specs.DeviceView.{device_state};
 
     /// The device of a machine at its start: the lowest blocks are plugged, and as much is requested.
     /// `unplugged` holds exactly the blocks above these, and has room for every block. It fails where
@@ -190,7 +189,7 @@ impl<L: Listener + Drop, B: Backing + Drop, H: Held + Drop> Device<L, B, H> {
     /// Closes the device, and gives what holds its unplugged blocks.
     pub fn close(self) -> H
         ensures hand { result ≡ self.hand }
-        ensures unplugged { H.blocks result ≡ unplugged_blocks self.sizes (state_of self).plugged }
+        ensures unplugged { H.blocks result ≡ unplugged_blocks self.sizes (device_state self).plugged }
     {
         let Device {
             memory,

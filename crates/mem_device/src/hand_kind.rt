@@ -1,8 +1,7 @@
 //! How a hand keeps its blocks.
 
 ghost use Rattle.std.specs.Prelude.{◌≡◌, ℕ, ◌<◌, true};
-ghost use Rattle.evac_model.specs.Numbers.{is_in};
-ghost use Rattle.dma_listeners.specs.BlockLists.{united};
+ghost use Rattle.evac_model.specs.Numbers.{is_in, united};
 ghost use Rattle.mem_device.specs.HandInside.{hand_state};
 
 use block_map::BlockMap;

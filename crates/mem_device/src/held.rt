@@ -2,8 +2,7 @@
 
 ghost use Rattle.std.specs.Prelude.{◌≡◌, ℕ, ◌+◌, ◌<◌, ◌≤◌, true, false, List};
 ghost use Rattle.std.specs.List.{range_with_len};
-ghost use Rattle.evac_model.specs.Numbers.{is_in};
-ghost use Rattle.dma_listeners.specs.BlockLists.{united, without_blocks};
+ghost use Rattle.evac_model.specs.Numbers.{is_in, united, without_range};
 
 use evac_model::BlockNo;
 
@@ -20,7 +19,7 @@ pub trait Held {
         requires below { first.0 + n ≤ room self.old }
         requires has { (b : ℕ) → first.0 ≤ b → b < first.0 + n → is_in b (blocks self.old) ≡ true }
         ensures gives { blocks result ≡ range_with_len first.0 n }
-        ensures keeps { blocks self.new ≡ without_blocks first.0 n (blocks self.old) }
+        ensures keeps { blocks self.new ≡ without_range first.0 n (blocks self.old) }
         ensures room { room self.new ≡ room self.old };
 
     /// Takes in all that another holds, none of which is held already.

@@ -6,7 +6,7 @@ ghost use Rattle.evac_model.specs.declared.device.Response.{Response};
 ghost use Rattle.evac_model.specs.declared.device.Response.TheVariants.{Busy};
 ghost use Rattle.evac_model.specs.Geometry.{Sizes};
 ghost use Rattle.evac_model.specs.DeviceAnswer.{DeviceState};
-ghost use Rattle.dma_listeners.specs.Calls.{Calls};
+ghost use Rattle.evac_model.specs.Counts.{Calls};
 ghost use Rattle.mem_device.specs.Answering.{IsAnswer};
 
 /// With a backing that counts no fault, as `SureSlate`, a device is busy only in a migration.

@@ -21,6 +21,3 @@ pub use evac_model::{BlockNo, Config, DeviceAct, DeviceAction, Geometry, OutOfMe
 pub use held::Held;
 pub use laws::sure_backing_is_never_busy;
 pub use range::range_at;
-
-#[cfg(test)]
-mod tests;

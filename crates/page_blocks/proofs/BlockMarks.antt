@@ -1,26 +1,20 @@
 -- The marks of blocks as the list of those that are isolated.
-use Rattle.std.proofs.Common.{◌≡◌, ℕ, ◌+◌, ◌-◌, ◌*◌, ◌/◌, ◌<◌, ◌≤◌, Bool, true, false, cond, not, ◌&&◌, ◌||◌, List, [], ◌∷◌, length, get_or, set, replicate, Option, refl, sym, ap, subst, ◌∙◌, arith, inl, inr}
-use Rattle.std.specs.List.{filter, list_any, range_with_len}
+use Rattle.std.proofs.Common.{◌≡◌, ℕ, ◌+◌, ◌-◌, ◌*◌, ◌/◌, ◌<◌, ◌≤◌, Bool, true, false, not, ◌&&◌, ◌||◌, List, [], ◌∷◌, length, get_or, set, replicate, Option, refl, sym, ap, subst, ◌∙◌, arith, inl, inr}
+use Rattle.std.specs.List.{list_any, range_with_len}
 use Rattle.std.proofs.lemmas.Bool.{cases_lt, cases_eq, eq-eqb, ne_eqb}
 use Rattle.std.proofs.Math.Dec.{eqb}
-use Rattle.std.proofs.Math.Nat.{lt-div-mul-add, div-lt_iff_lt-mul}
-use Rattle.std.proofs.lemmas.Nat.{div-add-mod', mul-le, pow_pos}
-use Rattle.std.proofs.lemmas.List.{get_or-set_same, get_or-set_other, get_or-replicate, get_or_past, length-replicate}
-use Rattle.evac_model.specs.Geometry.{Sizes, IsWithinLimits, frame_count, first_frame}
+use Rattle.std.proofs.Math.Nat.{lt-div-mul-add, div-lt_iff_lt-mul, mul-le-mul_right}
+use Rattle.std.proofs.lemmas.Nat.{div-add-mod'}
+use Rattle.std.proofs.lemmas.List.{get_or-set_same, get_or-set_other}
+use Rattle.evac_model.specs.Geometry.{Sizes, frame_count, first_frame}
 use Rattle.evac_model.specs.Numbers.{is_in, IsRisingBelow}
 use Rattle.evac_model.specs.SpaceJournal.{Out, is_frame_of, is_frame_in, with_block, without_block}
 use Rattle.evac_model.proofs.Numbers.{numbers_agree, is_in-numbers_where, is_in-numbers_where_past, numbers_where-none}
 use Rattle.evac_model.proofs.Ranges.{between_inside, between_below, between_above}
-use Rattle.page_blocks.specs.Marks.{Marks}
-use Rattle.page_blocks.specs.BlocksInside.{blocks_marked}
-
-or_true : (t : Bool) → (t || true) ≡ true
-or_true true = refl
-or_true false = refl
-
-or_false : (t : Bool) → (t || false) ≡ t
-or_false true = refl
-or_false false = refl
+use Rattle.page_blocks.specs.Marks.{Marks, blocks_marked}
+use Rattle.std.proofs.Math.Bool.{or-true, or-false, and-false, and-true}
+use Rattle.evac_model.proofs.Filters.{filter-filter}
+use Rattle.evac_model.proofs.Lists.{get_or-replicate_same}
 
 -- a block marked is in the list with it
 pub marked_with : (s : Sizes) (marks : List Bool) (b : ℕ) → b < length marks → blocks_marked (set marks b true) s.managed ≡ with_block s b (blocks_marked marks s.managed)
@@ -30,30 +24,12 @@ marked_with s marks b h =
       | inl e ↦
           ap (λ (i : ℕ). get_or (set marks b true) i false) e
           ∙ get_or-set_same marks b true false h
-          ∙ sym (ap (λ (t : Bool). is_in k (blocks_marked marks s.managed) || t) (eq-eqb k b e) ∙ or_true (is_in k (blocks_marked marks s.managed)))
+          ∙ sym (ap (λ (t : Bool). is_in k (blocks_marked marks s.managed) || t) (eq-eqb k b e) ∙ or-true (is_in k (blocks_marked marks s.managed)))
       | inr ne ↦
           get_or-set_other marks b k true false ne
           ∙ sym (is_in-numbers_where (λ (i : ℕ). get_or marks i false) s.managed k l)
-          ∙ sym (ap (λ (t : Bool). is_in k (blocks_marked marks s.managed) || t) (ne_eqb k b ne) ∙ or_false (is_in k (blocks_marked marks s.managed)))
+          ∙ sym (ap (λ (t : Bool). is_in k (blocks_marked marks s.managed) || t) (ne_eqb k b ne) ∙ or-false (is_in k (blocks_marked marks s.managed)))
     ])
-
--- two filters are one
-filter_cond : (p : ℕ → Bool) (t : Bool) (x : ℕ) (xs : List ℕ) → filter p (cond t (x ∷ xs) xs) ≡ cond (t && p x) (x ∷ filter p xs) (filter p xs)
-filter_cond p true x xs = refl
-filter_cond p false x xs = refl
-
-filter-filter : (p q : ℕ → Bool) (xs : List ℕ) → filter p (filter q xs) ≡ filter (λ (k : ℕ). q k && p k) xs
-filter-filter p q [] = refl
-filter-filter p q (x ∷ xs) =
-    filter_cond p (q x) x (filter q xs) ∙ ap (λ (ys : List ℕ). cond (q x && p x) (x ∷ ys) ys) (filter-filter p q xs)
-
-and_false : (t : Bool) → (t && false) ≡ false
-and_false true = refl
-and_false false = refl
-
-and_true : (t : Bool) → (t && true) ≡ t
-and_true true = refl
-and_true false = refl
 
 -- a block whose mark is cleared is not in the list
 pub marked_without : (marks : List Bool) (managed b : ℕ) → b < length marks → blocks_marked (set marks b false) managed ≡ without_block b (blocks_marked marks managed)
@@ -63,24 +39,16 @@ marked_without marks managed b h =
       | inl e ↦
           ap (λ (i : ℕ). get_or (set marks b false) i false) e
           ∙ get_or-set_same marks b false false h
-          ∙ sym (ap (λ (t : Bool). get_or marks k false && not t) (eq-eqb k b e) ∙ and_false (get_or marks k false))
+          ∙ sym (ap (λ (t : Bool). get_or marks k false && not t) (eq-eqb k b e) ∙ and-false (get_or marks k false))
       | inr ne ↦
           get_or-set_other marks b k false false ne
-          ∙ sym (ap (λ (t : Bool). get_or marks k false && not t) (ne_eqb k b ne) ∙ and_true (get_or marks k false))
+          ∙ sym (ap (λ (t : Bool). get_or marks k false && not t) (ne_eqb k b ne) ∙ and-true (get_or marks k false))
     ])
     ∙ sym (filter-filter (λ (k : ℕ). not (eqb k b)) (λ (k : ℕ). get_or marks k false) (range_with_len 0 managed))
 
--- none of the marks is set at the start
-unset : (n k : ℕ) → get_or (replicate n false) k false ≡ false
-unset n k =
-    elim (cases_lt k n) [
-      | inl l ↦ get_or-replicate n k false false l
-      | inr g ↦ get_or_past (replicate n false) k false (omega (arith, length-replicate {A = Bool} n false))
-    ]
-
 pub marked_none : (marks : List Bool) (n managed : ℕ) → marks ≡ replicate n false → blocks_marked marks managed ≡ []
 marked_none marks n managed e =
-    numbers_where-none (λ (k : ℕ). get_or marks k false) managed (λ k. ap (λ (ms : List Bool). get_or ms k false) e ∙ unset n k)
+    numbers_where-none (λ (k : ℕ). get_or marks k false) managed (λ k. ap (λ (ms : List Bool). get_or ms k false) e ∙ get_or-replicate_same n k false)
 
 -- what contracts see of the marks
 abbrev pub value_of : Sizes → List Bool → List (Option Out) → Marks
@@ -122,9 +90,6 @@ any_none test h (x ∷ xs) = rw (h x, any_none test h xs) refl
 quotient_lower : (frame size : ℕ) → frame / size * size ≤ frame
 quotient_lower frame size = omega (arith, div-add-mod' frame size)
 
-product_le : (a b size : ℕ) → a ≤ b → a * size ≤ b * size
-product_le a b size h = mul-le a size b size h (omega arith)
-
 -- a frame behind the boot blocks is of one block: that of its quotient
 frame_of_one : (s : Sizes) (frame : ℕ) → 0 < s.block → s.boot ≤ frame / s.block → (k : ℕ) → is_frame_of s k frame ≡ eqb (frame / s.block - s.boot) k
 frame_of_one s frame some boot k =
@@ -132,7 +97,7 @@ frame_of_one s frame some boot k =
     let upper : frame < frame / s.block * s.block + s.block = lt-div-mul-add {a = frame} {b = s.block} some in
     elim (cases_lt k (frame / s.block - s.boot)) [
       | inl l ↦
-          let below : (s.boot + k + 1) * s.block ≤ frame / s.block * s.block = product_le (s.boot + k + 1) (frame / s.block) s.block (omega (arith, l)) in
+          let below : (s.boot + k + 1) * s.block ≤ frame / s.block * s.block = mul-le-mul_right s.block (omega (arith, l)) in
           between_above (first_frame s k) (first_frame s k + s.block) frame (omega (arith, below, lower))
           ∙ sym (ne_eqb (frame / s.block - s.boot) k (λ e. omega (arith, e, l)))
       | inr g ↦ elim (cases_eq (frame / s.block - s.boot) k) [
@@ -141,7 +106,7 @@ frame_of_one s frame some boot k =
             between_inside (first_frame s k) (first_frame s k + s.block) frame (omega (arith, here, lower)) (omega (arith, here, upper))
             ∙ sym (eq-eqb (frame / s.block - s.boot) k e)
         | inr ne ↦
-            let above : (frame / s.block + 1) * s.block ≤ first_frame s k = product_le (frame / s.block + 1) (s.boot + k) s.block (omega (arith, g, ne)) in
+            let above : (frame / s.block + 1) * s.block ≤ first_frame s k = mul-le-mul_right s.block (omega (arith, g, ne)) in
             between_below (first_frame s k) (first_frame s k + s.block) frame (omega (arith, above, upper))
             ∙ sym (ne_eqb (frame / s.block - s.boot) k ne)
       ]
@@ -151,11 +116,8 @@ frame_of_one s frame some boot k =
 frame_of_none : (s : Sizes) (frame : ℕ) → 0 < s.block → frame / s.block < s.boot → (k : ℕ) → is_frame_of s k frame ≡ false
 frame_of_none s frame some boot k =
     let upper : frame < frame / s.block * s.block + s.block = lt-div-mul-add {a = frame} {b = s.block} some in
-    let above : (frame / s.block + 1) * s.block ≤ first_frame s k = product_le (frame / s.block + 1) (s.boot + k) s.block (omega (arith, boot)) in
+    let above : (frame / s.block + 1) * s.block ≤ first_frame s k = mul-le-mul_right s.block (omega (arith, boot)) in
     between_below (first_frame s k) (first_frame s k + s.block) frame (omega (arith, above, upper))
-
-pub block_some : (s : Sizes) → IsWithinLimits s → 0 < s.block
-block_some s w = omega (arith, w.block.2, pow_pos w.block.0)
 
 -- the block of a frame is a managed one, or a boot block
 pub block_below : (s : Sizes) (frame : ℕ) → 0 < s.block → frame < frame_count s → frame / s.block < s.boot + s.managed
@@ -176,11 +138,4 @@ boot_frame_isolated s marks out v e some frame boot =
 
 -- the frames of a managed block are frames of the machine
 pub block_within : (s : Sizes) (b : ℕ) → b < s.managed → first_frame s b + s.block ≤ frame_count s
-block_within s b h = omega (arith, product_le (s.boot + b + 1) (s.boot + s.managed) s.block (omega (arith, h)))
-
--- a frame of a block is below its end
-frame_below : (s : Sizes) (b frame : ℕ) → is_frame_of s b frame ≡ true → frame < first_frame s b + s.block
-frame_below s b frame h = elim (cases_lt frame (first_frame s b + s.block)) [
-  | inl l ↦ l
-  | inr g ↦ let x : true ≡ false = sym h ∙ between_above (first_frame s b) (first_frame s b + s.block) frame g in cc
-]
+block_within s b h = omega (arith, mul-le-mul_right {m = s.boot + b + 1} {n = s.boot + s.managed} s.block (omega (arith, h)))

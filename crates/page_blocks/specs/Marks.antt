@@ -1,12 +1,17 @@
 -- Which frames are out, for which page and kind, and which managed blocks are isolated.
-use Rattle.std.specs.Prelude.{ℕ, zero, suc, ◌+◌, ◌-◌, max, Bool, not, List, [], ◌∷◌, Option, None, Some, Result, Ok, Err, slice_index_or}
+use Rattle.std.specs.Prelude.{ℕ, zero, suc, ◌+◌, ◌-◌, max, Bool, false, not, List, [], ◌∷◌, Option, None, Some, Result, Ok, Err, slice_index_or}
 use Rattle.evac_model.specs.declared.names.FrameNo.{FrameNo}
 use Rattle.evac_model.specs.declared.names.Kind.{Kind}
 use Rattle.evac_model.specs.declared.names.PageNo.{PageNo}
 use Rattle.evac_model.specs.declared.space.Unmovable.{Unmovable}
 use Rattle.evac_model.specs.Geometry.{Sizes, first_frame}
+use Rattle.evac_model.specs.Numbers.{numbers_where}
 use Rattle.evac_model.specs.Page.{is_movable}
 use Rattle.evac_model.specs.SpaceJournal.{Out}
+
+-- the numbers of the marks that are set, below a bound, rising
+abbrev pub blocks_marked : List Bool → (managed : ℕ) → List ℕ
+blocks_marked marks managed = numbers_where (λ b. slice_index_or marks b false) managed
 
 -- the machine, its isolated blocks, rising, and what each of its frames is out for
 pub record Marks : Type 0 where

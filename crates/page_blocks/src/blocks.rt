@@ -19,8 +19,8 @@ pub struct Blocks {
 }
 
 impl Model for Blocks {
-    ghost use Rattle.page_blocks.specs.Marks.{Marks};
-    ghost use Rattle.page_blocks.specs.BlocksInside.{blocks_marked, IsKept};
+    ghost use Rattle.page_blocks.specs.Marks.{Marks, blocks_marked};
+    ghost use Rattle.page_blocks.specs.BlocksInside.{IsKept};
 
     ghost Value = { Marks };
 

@@ -11,7 +11,7 @@ use Rattle.std.proofs.lemmas.Bool.Decides.{nat_tests}
 use Rattle.evac_model.specs.Page.{PlainPage, Page}
 use Rattle.evac_model.specs.State.{PlainState, page_at}
 use Rattle.report.specs.declared.report.FinalPage.{FinalPage}
-use Rattle.report.specs.FinalPages.{final_page, pages_below, plain_page, state_of}
+use Rattle.report.specs.FinalPages.{final_page, pages_below, plain_page, pages_state}
 
 -- a final page with its number
 abbrev pub numbered : List FinalPage → List (ℕ × PlainPage)
@@ -51,8 +51,8 @@ find-below state (suc n) q =
     ] refl
 
 -- where no page has a number from n on, the final pages are the state
-pub state_of-pages_below : (state : PlainState) (n : ℕ) → ((q : ℕ) → n ≤ q → page_at state q ≡ None) → state_of (pages_below state n) ≡ state
-state_of-pages_below state n none =
+pub pages_state-pages_below : (state : PlainState) (n : ℕ) → ((q : ℕ) → n ≤ q → page_at state q ≡ None) → pages_state (pages_below state n) ≡ state
+pages_state-pages_below state n none =
     same_map nat_cmp_total nat_cmp-IsAntisymmetric _ _ (λ q.
     get-from_entries nat_cmp_total (numbered (pages_below state n)) q ∙ (find-below state n q
     ∙ elim (nat_lt q n) as (λ b. nat_lt q n ≡ b → cond b (page_at state q) None ≡ page_at state q) [

@@ -20,5 +20,5 @@ abbrev pub plain_page : FinalPage → PlainPage
 plain_page p = record { cells = p.cells; kind = p.kind; pins = p.pins }
 
 -- the pages of the report as a plain state
-abbrev pub state_of : List FinalPage → PlainState
-state_of pages = from_entries (map (λ p. (p.page.0, plain_page p)) pages)
+abbrev pub pages_state : List FinalPage → PlainState
+pages_state pages = from_entries (map (λ p. (p.page.0, plain_page p)) pages)

@@ -10,6 +10,3 @@ mod words;
 
 pub use report::{FinalPage, FinalPageList, Report};
 pub use text::write_report;
-
-#[cfg(test)]
-mod tests;

@@ -10,7 +10,7 @@ use crate::host_text::put_runs;
 use crate::report::{FinalPage, Report};
 use crate::words::{put_kind, put_number, put_numbers, put_word};
 use crate::{device_text, space_text};
-use evac_model::{BlockNo, ByteList, Call, Entry, OutOfMemory, PageNo, Reply};
+use evac_model::{BlockNo, ByteList, Call, Entry, EntryList, OutOfMemory, PageNo, Reply};
 use itoa::Buffer;
 use std::alloc::{AllocError, Global};
 
@@ -128,10 +128,10 @@ fn put_page(out: &mut Vec<u8>, p: &FinalPage) -> Result<(), AllocError>
     Ok(out.push(b'\n')?)
 }
 
-fn put_entries(out: &mut Vec<u8>, entries: &[Entry]) -> Result<(), AllocError>
+fn put_entries(out: &mut Vec<u8>, entries: &EntryList) -> Result<(), AllocError>
     ensures { OnOk result (out.new.items ≡ out.old.items ++ flat_map entry_text entries.now) }
 {
-    for e in entries {
+    for e in entries.iter() {
         put_entry(out, e)?;
     }
     Ok(())
@@ -150,7 +150,7 @@ fn put_report(out: &mut Vec<u8>, report: &Report) -> Result<(), AllocError>
     requires { HaveStates report.now }
     ensures { OnOk result (out.new.items ≡ out.old.items ++ report_text report.now) }
 {
-    put_entries(out, report.history.as_slice())?;
+    put_entries(out, &report.history)?;
     put_runs(out, report.host.as_slice())?;
     space_text::put_actions(out, report.space_journal.as_slice())?;
     device_text::put_actions(out, report.device_journal.as_slice())?;

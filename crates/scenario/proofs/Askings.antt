@@ -1,8 +1,8 @@
 -- What the words of a line ask for is what the grammar says.
-use Rattle.std.proofs.Common.{◌≡◌, ◌≢◌, ℕ, true, false, ◌||◌, ◌&&◌, cond, List, [], ◌∷◌, length, Option, None, Some, refl, inl, inr, ◌⊎◌, sym, ap, ◌∙◌, subst, is_some, arith}
+use Rattle.std.proofs.Common.{◌≡◌, ◌≢◌, ℕ, true, ◌||◌, ◌&&◌, cond, List, [], ◌∷◌, length, Option, None, Some, refl, inl, inr, ◌⊎◌, sym, ap, ◌∙◌, subst, is_some, arith}
 use Rattle.std.specs.Prelude.{Contains, slice_index_or, ◌==◌, codes}
 use Rattle.std.specs.Str.{bytes_eq}
-use Rattle.std.proofs.lemmas.Bool.{and_parts, and_from, both_ways, cases_Bool, cond_both, cond-false, eq-eqb, eqb-true, eqb-false, true≢false}
+use Rattle.std.proofs.lemmas.Bool.{and_parts, and_from, both_ways, cases_Bool, cond_both, cond-false, eq-eqb, eqb-true, eqb-false}
 use Rattle.std.proofs.lemmas.Option.{none-some}
 use Rattle.std.proofs.lemmas.List.{nil_from_length}
 use Rattle.hex.specs.Hex.{encode_lower}
@@ -18,6 +18,7 @@ use Rattle.scenario.specs.Reading.{hex_bytes}
 use Rattle.scenario.proofs.HexWords.{hex_is, hex_again}
 use Rattle.scenario.proofs.Numerals.{number_is, no_owner}
 use Rattle.scenario.proofs.Names.{same_text, other_text, one_of, none_of, each_name, is_none, isnt_none}
+use Rattle.evac_model.proofs.Options.{none_from_test, some_from_test}
 
 -- behind an owner's number: unknown or read, by a fact
 abbrev Tells : Type 0 → Ask → Type 0
@@ -192,25 +193,17 @@ name_says word rest none other =
     (λ f. (not_unknown word rest none (isnt_none line_names word f) (λ h c. other h), λ l. elim l [ inl c ↦ none_of later_lines word e c | inr k ↦ other k.0 ]))
     (λ f. inl (is_none line_names word f, no_owner word none)))
 
-is_none_number : (o : Option ℕ) → is_some o ≡ false → o ≡ None
-is_none_number None e = refl
-is_none_number (Some n) e = absurd (true≢false e)
-
-some_number : (o : Option ℕ) → is_some o ≡ true → (n : ℕ) × (o ≡ Some n)
-some_number None e = absurd cc
-some_number (Some n) e = (n, refl)
-
 pub words_say : (ws : List (List ℕ)) → Says ws (ask_of_words ws)
 words_say [] = (λ u. u, λ l. l)
 words_say (word ∷ rest) =
     let others = cond (bytes_eq word (codes "host")) (ask_of_host rest) (cond (is_one_of later_lines word) Later (cond (length word == 0 || is_one_of line_names word) Read Unknown)) in
     cond_both (is_some (number_of word)) (ask_of_owner rest) others (Says (word ∷ rest))
     (λ e.
-    let n = some_number (number_of word) e in
+    let n = some_from_test (number_of word) e in
     let is = number_is word n.0 n.1 in
     says_of_owner word rest (ask_of_owner rest) (n.0, is.0, is.1) (λ none. none-some n.0 (sym none ∙ n.1)) (owner_tells rest))
     (λ e.
-    let none = is_none_number (number_of word) e in
+    let none = none_from_test (number_of word) e in
     cond_both (bytes_eq word (codes "host")) (ask_of_host rest) (cond (is_one_of later_lines word) Later (cond (length word == 0 || is_one_of line_names word) Read Unknown)) (Says (word ∷ rest))
     (λ f. host_says word rest (ask_of_host rest) none (same_text word (codes "host") f) (host_tells rest))
     (λ f. name_says word rest none (other_text word (codes "host") f)))

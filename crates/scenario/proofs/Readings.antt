@@ -1,10 +1,10 @@
 -- What is read is spelled so, and what is spelled so is read.
-use Rattle.std.proofs.Common.{◌≡◌, ℕ, zero, suc, ◌≤◌, false, cond, List, [], ◌∷◌, ◌++◌, length, map, Option, Some, None, refl, inl, inr, sym, ap, ◌∙◌, subst, arith}
+use Rattle.std.proofs.Common.{◌≡◌, ℕ, zero, suc, ◌≤◌, cond, List, [], ◌∷◌, ◌++◌, length, map, Option, Some, None, refl, inl, inr, ap, ◌∙◌, subst, arith}
 use Rattle.std.specs.Prelude.{◌==◌, codes, IfSome}
 use Rattle.std.specs.List.{AllByRecursion}
 use Rattle.std.specs.Fmt.{decimal}
 use Rattle.std.specs.Str.{bytes_eq}
-use Rattle.std.proofs.lemmas.Bool.{eqb-true, eqb-false, ne_eqb, false_from_ne_true}
+use Rattle.std.proofs.lemmas.Bool.{eqb-true, eqb-false, ne_eqb}
 use Rattle.std.proofs.lemmas.Option.{none-some, cond_some, same_Some}
 use Rattle.evac_model.specs.declared.names.Kind.{Kind}
 use Rattle.evac_model.specs.declared.names.Kind.TheVariants.{Movable, Unmovable}
@@ -23,7 +23,7 @@ use Rattle.scenario.proofs.Numerals.{number_is, number_again}
 use Rattle.scenario.proofs.Names.{same_text}
 use Rattle.scenario.proofs.HexWords.{hex_is, hex_again}
 use Rattle.scenario.proofs.Steps.{bind_some, chosen, ended_is}
-use Rattle.scenario.proofs.TurnWords.{turns_read, turns_again}
+use Rattle.scenario.proofs.TurnWords.{turns_read, turns_again, number_is_no_name}
 
 number_read : (ws : List (List ℕ)) (x : ℕ × List (List ℕ)) → number_at ws ≡ Some x → (ws ≡ decimal x.0 ∷ x.1) × IsNumber x.0
 number_read [] x e = absurd (none-some x e)
@@ -441,12 +441,9 @@ call_line_again : (owner : ℕ) (count : Option ℕ) (page : ℕ) (call : Call) 
 unfolding call_line_of
 call_line_again owner count page call k p h = rw (count_again count page call k, call_again page call p h) refl
 
-no_name : (n : ℕ) (name : List ℕ) → IsNumber n → number_of name ≡ None → bytes_eq (decimal n) name ≡ false
-no_name n name lt none = false_from_ne_true (bytes_eq (decimal n) name) (λ e. none-some n (sym none ∙ ap number_of (sym (same_text (decimal n) name e)) ∙ number_again n lt))
-
 owner_again : (owner : ℕ) (rest : List (List ℕ)) → IsNumber owner → line_of (decimal owner ∷ rest) ≡ call_line_of owner rest
 unfolding line_of plain_line_of
-owner_again owner rest lt = rw (no_name owner (codes "turns") lt refl, no_name owner (codes "machine") lt refl, no_name owner (codes "online") lt refl, no_name owner (codes "page") lt refl, no_name owner (codes "draw") lt refl, no_name owner (codes "host") lt refl, number_again owner lt) refl
+owner_again owner rest lt = rw (number_is_no_name owner (codes "turns") lt refl, number_is_no_name owner (codes "machine") lt refl, number_is_no_name owner (codes "online") lt refl, number_is_no_name owner (codes "page") lt refl, number_is_no_name owner (codes "draw") lt refl, number_is_no_name owner (codes "host") lt refl, number_again owner lt) refl
 
 command_again : (c : HostCommand) → HasBytes c → command_of (command_words c) ≡ Some c
 unfolding command_of request_of

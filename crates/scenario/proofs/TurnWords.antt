@@ -106,11 +106,12 @@ two_marks parts digits text e =
 
 -- ---- again
 
-no_letter : (k : ℕ) (name : List ℕ) → IsNumber k → number_of name ≡ None → bytes_eq (decimal k) name ≡ false
-no_letter k name lt none = false_from_ne_true (bytes_eq (decimal k) name) (λ e. none-some k (sym none ∙ ap number_of (sym (same_text (decimal k) name e)) ∙ number_again k lt))
+-- a word that is no number spells none
+pub number_is_no_name : (k : ℕ) (name : List ℕ) → IsNumber k → number_of name ≡ None → bytes_eq (decimal k) name ≡ false
+number_is_no_name k name lt none = false_from_ne_true (bytes_eq (decimal k) name) (λ e. none-some k (sym none ∙ ap number_of (sym (same_text (decimal k) name e)) ∙ number_again k lt))
 
 actor_again : (actor : Actor) → HasActorNumber actor → actor_of (actor_word actor) ≡ Some actor
-actor_again (Owner k) h = rw (no_letter k (codes "h") h refl, no_letter k (codes "s") h refl, number_again k h) refl
+actor_again (Owner k) h = rw (number_is_no_name k (codes "h") h refl, number_is_no_name k (codes "s") h refl, number_again k h) refl
 actor_again Host h = refl
 actor_again Scanner h = refl
 

@@ -158,7 +158,7 @@ fn values_of(rest: Option<&[u8]>) -> Option<Cells>
     let mut values = Cells::new();
     let mut rest = rest;
     while let Some(text) = rest {
-        if values.len() == Cells::MOST {
+        if values.is_full() {
             return None;
         }
         let (word, after) = split_word(text);

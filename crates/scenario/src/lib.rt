@@ -29,6 +29,3 @@ pub use evac_model::{
 };
 pub use laws::texts_are_judged_once;
 pub use reader::read_scenario;
-
-#[cfg(test)]
-mod tests;

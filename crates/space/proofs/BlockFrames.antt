@@ -1,30 +1,17 @@
 -- The frames of managed blocks, and lists of blocks.
-use Rattle.std.proofs.Common.{◌≡◌, ℕ, ◌+◌, ◌*◌, ◌<◌, ◌≤◌, Bool, true, false, ◌||◌, ◌&&◌, not, cond, List, [], ◌∷◌, refl, sym, ap, ◌∙◌, subst, arith, inl, inr}
-use Rattle.std.specs.List.{list_any, filter, range_with_len}
+use Rattle.std.proofs.Common.{◌≡◌, ℕ, ◌+◌, ◌*◌, ◌<◌, ◌≤◌, Bool, true, false, ◌||◌, ◌&&◌, not, List, [], ◌∷◌, refl, sym, ap, ◌∙◌, subst, arith, inl, inr}
+use Rattle.std.specs.List.{list_any, range_with_len}
 use Rattle.std.proofs.Math.Dec.{eqb}
-use Rattle.std.proofs.lemmas.Bool.{eqb-true, eq-eqb, ne_eqb, cases_lt, cases_Bool, or_left, or_right, or_cases, false≢true, and_parts, and_from}
+use Rattle.std.proofs.lemmas.Bool.{eqb-true, eq-eqb, ne_eqb, cases_lt, cases_Bool, or_left, or_right, or_cases, false≢true, and_parts, and_from, not-true, not_from_false}
 use Rattle.evac_model.specs.Geometry.{Sizes, first_frame}
 use Rattle.evac_model.specs.Numbers.{numbers_where, is_in, IsRisingBelow}
 use Rattle.evac_model.specs.SpaceJournal.{is_frame_of, is_frame_in, with_block, without_block}
-use Rattle.evac_model.proofs.Numbers.{numbers_agree, is_in-numbers_where, is_in-numbers_where_past}
+use Rattle.evac_model.proofs.Numbers.{is_in-numbers_where, is_in-numbers_where_past, numbers_rising}
 use Rattle.evac_model.proofs.Ranges.{between_inside, between_below, between_above}
-use Rattle.std.proofs.lemmas.Nat.{mul-le}
-
-or_false : (t : Bool) → (t || false) ≡ t
-or_false true = refl
-or_false false = refl
-
-or_true : (t : Bool) → (t || true) ≡ true
-or_true true = refl
-or_true false = refl
-
-and_true : (t : Bool) → (t && true) ≡ t
-and_true true = refl
-and_true false = refl
-
-and_false : (t : Bool) → (t && false) ≡ false
-and_false true = refl
-and_false false = refl
+use Rattle.std.proofs.Math.Bool.{or-false}
+use Rattle.std.proofs.Math.Nat.{mul-le-mul_right}
+use Rattle.evac_model.proofs.Unions.{rising_past}
+use Rattle.evac_model.proofs.Filters.{filter-filter}
 
 -- a frame of a block is from the block's first frame on and before the next block's
 pub frame_from : (s : Sizes) (b f : ℕ) → is_frame_of s b f ≡ true → first_frame s b ≤ f
@@ -42,13 +29,10 @@ frame_below s b f h = elim (cases_lt f (first_frame s b + s.block)) [
 pub in_block : (s : Sizes) (b f : ℕ) → first_frame s b ≤ f → f < first_frame s b + s.block → is_frame_of s b f ≡ true
 in_block s b f from below = between_inside (first_frame s b) (first_frame s b + s.block) f from below
 
-product_le : (a b size : ℕ) → a ≤ b → a * size ≤ b * size
-product_le a b size h = mul-le a size b size h (omega arith)
-
 -- so it is of no other block
 below_other : (s : Sizes) (a b f : ℕ) → a < b → is_frame_of s a f ≡ true → is_frame_of s b f ≡ true → ⊥
 below_other s a b f l ha hb =
-    let next : (s.boot + a + 1) * s.block ≤ (s.boot + b) * s.block = product_le (s.boot + a + 1) (s.boot + b) s.block (omega arith) in
+    let next : (s.boot + a + 1) * s.block ≤ (s.boot + b) * s.block = mul-le-mul_right s.block (omega arith) in
     omega (arith, frame_below s a f ha, frame_from s b f hb, next)
 
 pub same_block : (s : Sizes) (a b f : ℕ) → is_frame_of s a f ≡ true → is_frame_of s b f ≡ true → a ≡ b
@@ -90,34 +74,20 @@ both_true false true to from = absurd (false≢true (from refl))
 both_true false false to from = refl
 
 -- the blocks that stand in a list with one more, and in one without one
-in_bound : (n : ℕ) (xs : List ℕ) (b : ℕ) → IsRisingBelow n xs → is_in b xs ≡ true → b < n
-in_bound n xs b rising h = elim (cases_lt b n) [
-  | inl l ↦ l
-  | inr g ↦ absurd (false≢true (sym (is_in-numbers_where_past (λ (k : ℕ). is_in k xs) n b g) ∙ ap (is_in b) (sym rising) ∙ h))
-]
 
 pub is_in_bound : (n : ℕ) (xs : List ℕ) (b : ℕ) → IsRisingBelow n xs → is_in b xs ≡ true → b < n
-is_in_bound n xs b rising h = in_bound n xs b rising h
-
-pub numbers_rising : (p : ℕ → Bool) (n : ℕ) → IsRisingBelow n (numbers_where p n)
-numbers_rising p n = numbers_agree _ _ n (λ f l. sym (is_in-numbers_where p n f l))
+is_in_bound n xs b rising h = elim (cases_lt b n) [
+  | inl l ↦ l
+  | inr g ↦ absurd (false≢true (sym (rising_past n xs rising b g) ∙ h))
+]
 
 pub is_in-with_block : (s : Sizes) (b : ℕ) (xs : List ℕ) (k : ℕ) → IsRisingBelow s.managed xs → b < s.managed → is_in k (with_block s b xs) ≡ (is_in k xs || eqb k b)
 is_in-with_block s b xs k rising l = elim (cases_lt k s.managed) [
   | inl here ↦ is_in-numbers_where (λ (j : ℕ). is_in j xs || eqb j b) s.managed k here
   | inr past ↦
       is_in-numbers_where_past (λ (j : ℕ). is_in j xs || eqb j b) s.managed k past
-      ∙ sym (ap (λ (t : Bool). is_in k xs || t) (ne_eqb k b (λ e. omega (arith, e))) ∙ or_false (is_in k xs) ∙ ap (is_in k) rising ∙ is_in-numbers_where_past (λ (j : ℕ). is_in j xs) s.managed k past)
+      ∙ sym (ap (λ (t : Bool). is_in k xs || t) (ne_eqb k b (λ e. omega (arith, e))) ∙ or-false (is_in k xs) ∙ ap (is_in k) rising ∙ is_in-numbers_where_past (λ (j : ℕ). is_in j xs) s.managed k past)
 ]
-
-filter_cond : (p : ℕ → Bool) (t : Bool) (x : ℕ) (xs : List ℕ) → filter p (cond t (x ∷ xs) xs) ≡ cond (t && p x) (x ∷ filter p xs) (filter p xs)
-filter_cond p true x xs = refl
-filter_cond p false x xs = refl
-
-filter-filter : (p q : ℕ → Bool) (xs : List ℕ) → filter p (filter q xs) ≡ filter (λ (k : ℕ). q k && p k) xs
-filter-filter p q [] = refl
-filter-filter p q (x ∷ xs) =
-    filter_cond p (q x) x (filter q xs) ∙ ap (λ (ys : List ℕ). cond (q x && p x) (x ∷ ys) ys) (filter-filter p q xs)
 
 pub without-numbers : (n b : ℕ) (xs : List ℕ) → IsRisingBelow n xs → without_block b xs ≡ numbers_where (λ k. is_in k xs && not (eqb k b)) n
 without-numbers n b xs rising =
@@ -156,13 +126,6 @@ frame_in-with_block s b xs f rising l =
       | inr new ↦ frame_in_from s (with_block s b xs) b f (is_in-with_block s b xs b rising l ∙ or_right _ _ (eq-eqb b b refl)) new
     ])
 
-not_true : (t : Bool) → t ≡ false → not t ≡ true
-not_true t h = rw h refl
-
-from_not : (t : Bool) → not t ≡ true → t ≡ false
-from_not true h = absurd (false≢true h)
-from_not false h = refl
-
 pub frame_in-without_block : (s : Sizes) (n b : ℕ) (xs : List ℕ) (f : ℕ) → IsRisingBelow n xs → is_frame_in s (without_block b xs) f ≡ (is_frame_in s xs f && not (is_frame_of s b f))
 frame_in-without_block s n b xs f rising =
     both_true (is_frame_in s (without_block b xs) f) (is_frame_in s xs f && not (is_frame_of s b f))
@@ -170,12 +133,12 @@ frame_in-without_block s n b xs f rising =
     let w : (k : ℕ) × (is_in k (without_block b xs) ≡ true) × (is_frame_of s k f ≡ true) = frame_in_witness s (without_block b xs) f h in
     let parts : (is_in w.0 xs ≡ true) × (not (eqb w.0 b) ≡ true) = and_parts _ _ (sym (is_in-without_block n b xs w.0 rising) ∙ w.1) in
     let other : is_frame_of s b f ≡ false = elim (cases_Bool (is_frame_of s b f)) [
-      | inl is ↦ absurd (false≢true (sym (from_not (eqb w.0 b) parts.1) ∙ eq-eqb w.0 b (same_block s w.0 b f w.2 is)))
+      | inl is ↦ absurd (false≢true (sym (not-true (eqb w.0 b) parts.1) ∙ eq-eqb w.0 b (same_block s w.0 b f w.2 is)))
       | inr isnt ↦ isnt
     ] in
-    and_from _ _ (frame_in_from s xs w.0 f parts.0 w.2) (not_true _ other))
+    and_from _ _ (frame_in_from s xs w.0 f parts.0 w.2) (not_from_false _ other))
     (λ h.
     let parts : (is_frame_in s xs f ≡ true) × (not (is_frame_of s b f) ≡ true) = and_parts _ _ h in
     let w : (k : ℕ) × (is_in k xs ≡ true) × (is_frame_of s k f ≡ true) = frame_in_witness s xs f parts.0 in
-    let other : eqb w.0 b ≡ false = ne_eqb w.0 b (λ e. false≢true (sym (from_not (is_frame_of s b f) parts.1) ∙ ap (λ (z : ℕ). is_frame_of s z f) (sym e) ∙ w.2)) in
-    frame_in_from s (without_block b xs) w.0 f (is_in-without_block n b xs w.0 rising ∙ and_from _ _ w.1 (not_true _ other)) w.2)
+    let other : eqb w.0 b ≡ false = ne_eqb w.0 b (λ e. false≢true (sym (not-true (is_frame_of s b f) parts.1) ∙ ap (λ (z : ℕ). is_frame_of s z f) (sym e) ∙ w.2)) in
+    frame_in_from s (without_block b xs) w.0 f (is_in-without_block n b xs w.0 rising ∙ and_from _ _ w.1 (not_from_false _ other)) w.2)

@@ -1,5 +1,5 @@
 -- The caches behind a frame given back, and behind a drain.
-use Rattle.std.proofs.Common.{◌≡◌, ℕ, ◌+◌, ◌<◌, ◌≤◌, zero, suc, Bool, true, false, ◌||◌, cond, List, [], ◌∷◌, ◌++◌, map, take, length, get_or, refl, sym, ap, ◌∙◌, subst, arith, inl, inr}
+use Rattle.std.proofs.Common.{◌≡◌, ℕ, ◌<◌, ◌≤◌, zero, suc, Bool, true, false, ◌||◌, List, [], ◌∷◌, ◌++◌, map, take, length, get_or, refl, sym, ap, ◌∙◌, subst, arith, inl, inr}
 use Rattle.std.specs.List.{list_any, concat, filter}
 use Rattle.std.proofs.Math.Dec.{eqb}
 use Rattle.std.proofs.Math.ListN.{set}
@@ -8,21 +8,15 @@ use Rattle.std.proofs.lemmas.List.{take_all, take_more, set_past, length-set, le
 use Rattle.evac_model.specs.Numbers.{is_in}
 use Rattle.evac_model.specs.SpaceJournal.{put_back}
 use Rattle.frame_cache.specs.Drains.{AreCaches, AreDistinct}
-use Rattle.frame_cache.proofs.Members.{is_in-append, distinct_apart}
+use Rattle.frame_cache.proofs.Members.{distinct_apart}
 use Rattle.space.proofs.Members.{any-get_or, any-set_in, any-set_same, any-set_new, any-set_gone, is_in_take, distinct-get_or, distinct-set, distinct-take}
-
-length_cond : (t : Bool) (x : ℕ) (xs : List ℕ) (n : ℕ) → length xs ≤ n → length (cond t (x ∷ xs) xs) ≤ n + 1
-length_cond true x xs n h = omega arith
-length_cond false x xs n h = omega arith
-
-length_filter : (p : ℕ → Bool) (xs : List ℕ) → length (filter p xs) ≤ length xs
-length_filter p [] = omega arith
-length_filter p (x ∷ xs) = omega (arith, length_cond (p x) x (filter p xs) (length xs) (length_filter p xs))
+use Rattle.evac_model.proofs.Members.{is_in-append}
+use Rattle.evac_model.proofs.Filters.{length-filter-le}
 
 -- a drain leaves caches
 few_filtered : (p : ℕ → Bool) (caches : List (List ℕ)) (who : ℕ) → length (get_or (map (filter p) caches) who []) ≤ length (get_or caches who [])
 few_filtered p [] who = omega arith
-few_filtered p (xs ∷ xss) zero = length_filter p xs
+few_filtered p (xs ∷ xss) zero = length-filter-le p xs
 few_filtered p (xs ∷ xss) (suc who) = few_filtered p xss who
 
 pub caches_filtered : (p : ℕ → Bool) (caches : List (List ℕ)) → AreCaches caches → AreCaches (map (filter p) caches)

@@ -16,12 +16,13 @@ use Rattle.evac_model.specs.Geometry.{Sizes}
 use Rattle.evac_model.specs.Numbers.{numbers_where, is_in, IsRisingBelow}
 use Rattle.evac_model.specs.SpaceJournal.{SpaceState, Out, out_for, with_block, without_block, after_action, space_after, IsPossible, IsPossibleJournal}
 use Rattle.evac_model.proofs.Numbers.{length-numbers_where_more}
-use Rattle.space.specs.JournaledSpace.{JournaledSpace, state_of}
+use Rattle.space.specs.JournaledSpace.{JournaledSpace, space_state}
 use Rattle.space.specs.KeptSpace.{KeptSpace, behind}
 use Rattle.space.specs.KeptJournal.{IsLeftBy}
 use Rattle.space.specs.SpaceInside.{IsSpace, IsOwed}
 use Rattle.space.proofs.BlockFrames.{is_in_bound, without-numbers}
 use Rattle.space.proofs.SpacesBehind.{undone_state, space_undone, is_out-from, out_in_count}
+use Rattle.std.proofs.Math.Bool.{or-false, and-true, and-false}
 
 pub space_after-append : (s : Sizes) (online : Kind) (st : SpaceState) (journal : List SpaceAction) (a : SpaceAction) → space_after s online st (journal ++ a ∷ []) ≡ after_action s online (space_after s online st journal) a
 space_after-append s online st [] a = refl
@@ -54,28 +55,16 @@ count_set out f x l h =
 length-with_block : (s : Sizes) (b : ℕ) (xs : List ℕ) → IsRisingBelow s.managed xs → b < s.managed → is_in b xs ≡ false → length (with_block s b xs) ≡ length xs + 1
 length-with_block s b xs rising l none =
     length-numbers_where_more (λ (k : ℕ). is_in k xs) (λ (k : ℕ). is_in k xs || eqb k b) s.managed b l none (ap (λ (t : Bool). t || eqb b b) none ∙ eq-eqb b b refl)
-    (λ k ne. ap (λ (t : Bool). is_in k xs || t) (ne_eqb k b ne) ∙ or_false (is_in k xs))
+    (λ k ne. ap (λ (t : Bool). is_in k xs || t) (ne_eqb k b ne) ∙ or-false (is_in k xs))
     ∙ ap (λ (ys : List ℕ). length ys + 1) (sym rising)
-  where
-    or_false : (t : Bool) → (t || false) ≡ t
-    or_false true = refl
-    or_false false = refl
 
 length-without_block : (n b : ℕ) (xs : List ℕ) → IsRisingBelow n xs → is_in b xs ≡ true → length (without_block b xs) + 1 ≡ length xs
 length-without_block n b xs rising there =
     let more : length (numbers_where (λ k. is_in k xs) n) ≡ length (numbers_where (λ k. is_in k xs && not (eqb k b)) n) + 1 =
     length-numbers_where_more (λ (k : ℕ). is_in k xs && not (eqb k b)) (λ (k : ℕ). is_in k xs) n b (is_in_bound n xs b rising there)
-    (ap (λ (t : Bool). is_in b xs && not t) (eq-eqb b b refl) ∙ and_false (is_in b xs)) there
-    (λ k ne. sym (ap (λ (t : Bool). is_in k xs && not t) (ne_eqb k b ne) ∙ and_true (is_in k xs))) in
+    (ap (λ (t : Bool). is_in b xs && not t) (eq-eqb b b refl) ∙ and-false (is_in b xs)) there
+    (λ k ne. sym (ap (λ (t : Bool). is_in k xs && not t) (ne_eqb k b ne) ∙ and-true (is_in k xs))) in
     ap (λ (ys : List ℕ). length ys + 1) (without-numbers n b xs rising) ∙ sym more ∙ ap length (sym rising)
-  where
-    and_true : (t : Bool) → (t && true) ≡ t
-    and_true true = refl
-    and_true false = refl
-
-    and_false : (t : Bool) → (t && false) ≡ false
-    and_false true = refl
-    and_false false = refl
 
 -- a list that has no other blocks is no longer
 length_conds : (t u : Bool) (x : ℕ) (xs ys : List ℕ) → (t ≡ true → u ≡ true) → length xs ≤ length ys → length (cond t (x ∷ xs) xs) ≤ length (cond u (x ∷ ys) ys)
@@ -139,25 +128,25 @@ owed_online k owed b next space h there e =
     subst P (sym e) (some, omega (arith, h, fewer, fewer_isolated, some))
 
 -- the same, as the journal tells it
-pub return_owed : (v : JournaledSpace) (k : KeptSpace) (used owed room who : ℕ) (frame : FrameNo) (next : KeptSpace) → IsLeftBy v k used owed room → IsSpace k.sizes k.online k.state → out_for (state_of v) frame.0 ≢ None → next ≡ behind (Return who frame) k → (1 ≤ owed) × IsOwed next.state (owed - 1)
+pub return_owed : (v : JournaledSpace) (k : KeptSpace) (used owed room who : ℕ) (frame : FrameNo) (next : KeptSpace) → IsLeftBy v k used owed room → IsSpace k.sizes k.online k.state → out_for (space_state v) frame.0 ≢ None → next ≡ behind (Return who frame) k → (1 ≤ owed) × IsOwed next.state (owed - 1)
 return_owed v k used owed room who frame next h space ne e =
     let P : KeptSpace → Type 0 = λ x. out_for x.state frame.0 ≢ None in
     owed_return k owed who frame next space h.owed_for (subst P (sym h.left) ne) e
 
-pub isolate_owed : (v : JournaledSpace) (k : KeptSpace) (used owed room : ℕ) (b : BlockNo) (next : KeptSpace) → IsLeftBy v k used owed room → IsSpace k.sizes k.online k.state → b.0 < v.sizes.managed → is_in b.0 (state_of v).isolated ≡ false → next ≡ behind (Isolate b) k → IsOwed next.state (owed + 2)
+pub isolate_owed : (v : JournaledSpace) (k : KeptSpace) (used owed room : ℕ) (b : BlockNo) (next : KeptSpace) → IsLeftBy v k used owed room → IsSpace k.sizes k.online k.state → b.0 < v.sizes.managed → is_in b.0 (space_state v).isolated ≡ false → next ≡ behind (Isolate b) k → IsOwed next.state (owed + 2)
 isolate_owed v k used owed room b next h space l none e =
     let P : KeptSpace → Type 0 = λ x. b.0 < x.sizes.managed in
     owed_isolate k owed b next space h.owed_for (subst P (sym h.left) l) (ap (λ (x : KeptSpace). is_in b.0 x.state.isolated) h.left ∙ none) e
 
-pub undo_owed : (v : JournaledSpace) (k : KeptSpace) (used owed room : ℕ) (b : BlockNo) (next : KeptSpace) → IsLeftBy v k used owed room → IsSpace k.sizes k.online k.state → is_in b.0 (state_of v).isolated ≡ true → is_in b.0 (state_of v).offline ≡ false → next ≡ behind (Undo b) k → (2 ≤ owed) × IsOwed next.state (owed - 2)
+pub undo_owed : (v : JournaledSpace) (k : KeptSpace) (used owed room : ℕ) (b : BlockNo) (next : KeptSpace) → IsLeftBy v k used owed room → IsSpace k.sizes k.online k.state → is_in b.0 (space_state v).isolated ≡ true → is_in b.0 (space_state v).offline ≡ false → next ≡ behind (Undo b) k → (2 ≤ owed) × IsOwed next.state (owed - 2)
 undo_owed v k used owed room b next h space there off e =
     owed_undo k owed b next space h.owed_for (ap (λ (x : KeptSpace). is_in b.0 x.state.isolated) h.left ∙ there) (ap (λ (x : KeptSpace). is_in b.0 x.state.offline) h.left ∙ off) e
 
-pub offline_owed : (v : JournaledSpace) (k : KeptSpace) (used owed room : ℕ) (b : BlockNo) (next : KeptSpace) → IsLeftBy v k used owed room → IsSpace k.sizes k.online k.state → is_in b.0 (state_of v).isolated ≡ true → is_in b.0 (state_of v).offline ≡ false → next ≡ behind (Offline b) k → (1 ≤ owed) × IsOwed next.state (owed - 1)
+pub offline_owed : (v : JournaledSpace) (k : KeptSpace) (used owed room : ℕ) (b : BlockNo) (next : KeptSpace) → IsLeftBy v k used owed room → IsSpace k.sizes k.online k.state → is_in b.0 (space_state v).isolated ≡ true → is_in b.0 (space_state v).offline ≡ false → next ≡ behind (Offline b) k → (1 ≤ owed) × IsOwed next.state (owed - 1)
 offline_owed v k used owed room b next h space there off e =
     owed_offline k owed b next space h.owed_for (ap (λ (x : KeptSpace). is_in b.0 x.state.isolated) h.left ∙ there) (ap (λ (x : KeptSpace). is_in b.0 x.state.offline) h.left ∙ off) e
 
-pub online_owed : (v : JournaledSpace) (k : KeptSpace) (used owed room : ℕ) (b : BlockNo) (next : KeptSpace) → IsLeftBy v k used owed room → IsSpace k.sizes k.online k.state → is_in b.0 (state_of v).offline ≡ true → next ≡ behind (Online b) k → (1 ≤ owed) × IsOwed next.state (owed - 1)
+pub online_owed : (v : JournaledSpace) (k : KeptSpace) (used owed room : ℕ) (b : BlockNo) (next : KeptSpace) → IsLeftBy v k used owed room → IsSpace k.sizes k.online k.state → is_in b.0 (space_state v).offline ≡ true → next ≡ behind (Online b) k → (1 ≤ owed) × IsOwed next.state (owed - 1)
 online_owed v k used owed room b next h space there e =
     owed_online k owed b next space h.owed_for (ap (λ (x : KeptSpace). is_in b.0 x.state.offline) h.left ∙ there) e
 

@@ -6,7 +6,7 @@ use Rattle.evac_model.specs.declared.scenario.StartPage.{StartPage}
 use Rattle.evac_model.specs.declared.space.SpaceAction.{SpaceAction}
 use Rattle.evac_model.specs.Geometry.{Sizes, IsWithinLimits}
 use Rattle.evac_model.specs.SpaceJournal.{space_at_start, IsPossible, IsPossibleJournal}
-use Rattle.space.specs.JournaledSpace.{JournaledSpace, state_of, with_action, AreStartFrames}
+use Rattle.space.specs.JournaledSpace.{JournaledSpace, space_state, with_action, AreStartFrames}
 use Rattle.space.specs.KeptSpace.{KeptSpace, behind}
 use Rattle.space.specs.KeptJournal.{journaled, left_by, IsLeftBy}
 use Rattle.space.specs.SpaceInside.{IsSpace, IsOwed}
@@ -18,7 +18,7 @@ pub left_by-with_action : (v : JournaledSpace) (a : SpaceAction) → behind a (l
 left_by-with_action v a =
     λ i. record { sizes = v.sizes; online = v.online; state = sym (space_after-append v.sizes v.online v.opening v.journal a) i }
 
-possible_left : (v : JournaledSpace) (k : KeptSpace) (used owed room : ℕ) (a : SpaceAction) → IsLeftBy v k used owed room → IsPossible v.sizes v.online (state_of v) a → IsPossible k.sizes k.online k.state a
+possible_left : (v : JournaledSpace) (k : KeptSpace) (used owed room : ℕ) (a : SpaceAction) → IsLeftBy v k used owed room → IsPossible v.sizes v.online (space_state v) a → IsPossible k.sizes k.online k.state a
 possible_left v k used owed room a h here =
     let P : KeptSpace → Type 0 = λ x. IsPossible x.sizes x.online x.state a in subst P (sym h.left) here
 
@@ -28,7 +28,7 @@ within_same k next e h = let P : KeptSpace → Type 0 = λ x. IsWithinLimits x.s
 space_same : (k next : KeptSpace) → next ≡ k → IsSpace k.sizes k.online k.state → IsSpace next.sizes next.online next.state
 space_same k next e h = let P : KeptSpace → Type 0 = λ x. IsSpace x.sizes x.online x.state in subst P (sym e) h
 
-pub left_behind : (v : JournaledSpace) (k next : KeptSpace) (used owed room used2 owed2 room2 : ℕ) (a : SpaceAction) → IsLeftBy v k used owed room → next ≡ behind a k → IsPossible v.sizes v.online (state_of v) a → IsOwed next.state owed2 → used2 + owed2 ≤ room2 → IsLeftBy (with_action a v) next used2 owed2 room2
+pub left_behind : (v : JournaledSpace) (k next : KeptSpace) (used owed room used2 owed2 room2 : ℕ) (a : SpaceAction) → IsLeftBy v k used owed room → next ≡ behind a k → IsPossible v.sizes v.online (space_state v) a → IsOwed next.state owed2 → used2 + owed2 ≤ room2 → IsLeftBy (with_action a v) next used2 owed2 room2
 left_behind v k next used owed room used2 owed2 room2 a h e here owed_for enough = record {
   within = within_same (behind a k) next e h.within;
   space = space_same (behind a k) next e (space_behind k.sizes k.online k.state a h.within h.space (possible_left v k used owed room a h here));
@@ -47,7 +47,7 @@ pub left_opened : (k : KeptSpace) (start : List StartPage) (journal : List Space
 left_opened k start journal used owed room v e h = let P : JournaledSpace → Type 0 = λ x. IsLeftBy x k used owed room in subst P e h
 
 -- the invariant behind an action
-pub left_next : (k next : KeptSpace) (start : List StartPage) (journal journal2 : List SpaceAction) (used owed room used2 owed2 room2 : ℕ) (a : SpaceAction) (v : JournaledSpace) → journaled k start journal ≡ v → IsLeftBy v k used owed room → next ≡ behind a k → journal2 ≡ journal ++ a ∷ [] → IsPossible v.sizes v.online (state_of v) a → IsOwed next.state owed2 → used2 + owed2 ≤ room2 → IsLeftBy (journaled next start journal2) next used2 owed2 room2
+pub left_next : (k next : KeptSpace) (start : List StartPage) (journal journal2 : List SpaceAction) (used owed room used2 owed2 room2 : ℕ) (a : SpaceAction) (v : JournaledSpace) → journaled k start journal ≡ v → IsLeftBy v k used owed room → next ≡ behind a k → journal2 ≡ journal ++ a ∷ [] → IsPossible v.sizes v.online (space_state v) a → IsOwed next.state owed2 → used2 + owed2 ≤ room2 → IsLeftBy (journaled next start journal2) next used2 owed2 room2
 left_next k next start journal journal2 used owed room used2 owed2 room2 a v e h en ej here owed_for enough =
     let P : JournaledSpace → Type 0 = λ x. IsLeftBy x next used2 owed2 room2 in
     subst P (sym (journaled-with_action k next start journal journal2 a v e en ej)) (left_behind v k next used owed room used2 owed2 room2 a h en here owed_for enough)

@@ -4,8 +4,7 @@ use Rattle.std.specs.List.{list_any, filter, slice_get, Contains}
 use Rattle.std.specs.Option.{option_map}
 use Rattle.std.proofs.Math.Dec.{eqb}
 use Rattle.std.proofs.Math.ListN.{set}
-use Rattle.std.proofs.lemmas.Bool.{cases_eq, cases_lt, eq-eqb, ne_eqb}
-use Rattle.std.proofs.lemmas.Bool.Decides.{nat_tests}
+use Rattle.std.proofs.lemmas.Bool.{cases_lt}
 use Rattle.std.proofs.lemmas.List.{length-set, get_or_past}
 use Rattle.std.proofs.lemmas.Option.{slice_get-get_or, slice_get_past}
 use Rattle.evac_model.specs.declared.names.BlockNo.{BlockNo}
@@ -17,8 +16,7 @@ use Rattle.evac_model.proofs.Numbers.{is_in-numbers_where, is_in-numbers_where_p
 use Rattle.evac_model.specs.SpaceJournal.{SpaceState, Out, out_for, is_frame_of, is_frame_in, with_block, without_block, put_back, caches_after_return, IsEmptied, HasMovableAlone}
 use Rattle.buddy.specs.FreeFrames.{FreeFrames, with_frames, with_withdrawn, with_restored}
 use Rattle.frame_cache.specs.Drains.{IsGivable, IsDrainable}
-use Rattle.page_blocks.specs.BlocksInside.{blocks_marked}
-use Rattle.page_blocks.specs.Marks.{Marks, first_page, frames_out_after}
+use Rattle.page_blocks.specs.Marks.{Marks, first_page, frames_out_after, blocks_marked}
 use Rattle.page_blocks.proofs.BlockMarks.{marked_with, marked_without}
 use Rattle.page_blocks.proofs.Frames.{frames_out-has}
 use Rattle.space.specs.SpaceInside.{runs_of}
@@ -28,6 +26,8 @@ use Rattle.space.proofs.BlockFrames.{is_in_bound, frame_from, frame_below}
 use Rattle.space.proofs.CachesBehind.{pushed_in}
 use Rattle.space.proofs.RunsOfSpaces.{neither_out, neither_cached, drainable}
 use Rattle.space.proofs.SpacesBehind.{drained_state, returned_state, space_isolated, space_undone, space_offline, space_online, space_cleared, space_returned, runs_drained, runs_isolated, runs_undone, runs_online, runs_cleared, runs_put, runs_pushed, is_out-from, out_in_count}
+use Rattle.evac_model.proofs.Ranges.{between_one}
+use Rattle.frame_cache.proofs.Givings.{with_frames_same}
 
 -- the space that they make is the one that they have
 pub space_of-is : (k : KeptSpace) (r : FreeFrames) (m : Marks) (held : List (List ℕ)) (bits : List Bool) → AreOf k r m held bits → space_of r m held bits ≡ k
@@ -52,15 +52,9 @@ pub opened : (k : KeptSpace) (r : FreeFrames) (m : Marks) (held : List (List ℕ
 opened k r m held bits e h = let P : KeptSpace → Type 0 = λ x. AreOf x r m held bits in subst P e h
 
 -- one frame given
-pub between_one : (b f : ℕ) → is_between b (b + 1) f ≡ eqb f b
-between_one b f =
-    elim (cases_eq f b) [
-      | inl e ↦ (let in_range : is_between b (b + 1) f ≡ true = grind (arith, nat_tests) in in_range) ∙ sym (eq-eqb f b e)
-      | inr ne ↦ (let out_of_range : is_between b (b + 1) f ≡ false = grind (arith, nat_tests) in out_of_range) ∙ sym (ne_eqb f b ne)
-    ]
 
 pub given_one : (r : FreeFrames) (b : ℕ) → with_frames (is_between b (b + 1)) r ≡ with_frames (λ f. eqb f b) r
-given_one r b = ap (λ (t : ℕ → Bool). with_frames t r) (λ i f. between_one b f i)
+given_one r b = with_frames_same (is_between b (b + 1)) (λ f. eqb f b) r (between_one b)
 
 -- a block that is isolated is a managed one, and there is a bit for it
 pub isolated_managed : (k : KeptSpace) (r : FreeFrames) (m : Marks) (held : List (List ℕ)) (bits : List Bool) (b : ℕ) → AreOf k r m held bits → is_in b k.state.isolated ≡ true → b < m.sizes.managed

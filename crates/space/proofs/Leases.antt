@@ -17,12 +17,13 @@ use Rattle.evac_model.specs.FreeRuns.{fits, is_all_free, chosen_run}
 use Rattle.evac_model.specs.SpaceJournal.{SpaceState, Out, Leased, IsLeasable, out_for, is_frame_of, is_frame_in, free_frames, from_cache, from_run, from_runs, one_frame, kernel_run, drained, lease_of, after_lease}
 use Rattle.buddy.proofs.FreeRunLaws.{no_choice}
 use Rattle.frame_cache.specs.Drains.{AreCaches, AreDistinct}
-use Rattle.space.specs.JournaledSpace.{JournaledSpace, state_of, IsLeasableFor}
+use Rattle.space.specs.JournaledSpace.{JournaledSpace, space_state, IsLeasableFor}
 use Rattle.space.specs.SpaceInside.{IsSpace}
 use Rattle.space.proofs.CachesBehind.{set_caches}
-use Rattle.space.proofs.Members.{any-filter, get_or-filter_each, any-set_in, any-set_rest, any-rest_none, any-get_or, is_in-range_with_len, distinct-set, distinct-range_with_len, distinct-get_or}
+use Rattle.space.proofs.Members.{any-filter, get_or-filter_each, any-set_in, any-set_rest, any-rest_none, any-get_or, distinct-set, distinct-range_with_len, distinct-get_or}
 use Rattle.space.proofs.Spaces.{IsFreeFrame, free_frame, free_frame_in, one_free, drained_space}
 use Rattle.space.proofs.Choices.{IsChosenRun, chosen, few_frames}
+use Rattle.evac_model.proofs.Members.{is_in-range_with_len}
 
 pub record IsGoodLease (s : Sizes) (online : Kind) (st : SpaceState) (kind : Kind) (l : Leased) : Type 0 where
   pub kept : (page : ℕ) → IsSpace s online (after_lease st (Some l) page kind)
@@ -286,8 +287,8 @@ lease_none s online st who kind w h = (
 )
 
 -- the same of a journaled space
-pub leased_free : (v : JournaledSpace) (who : ℕ) (kind : Kind) (l : Leased) → IsWithinLimits v.sizes → IsSpace v.sizes v.online (state_of v) → lease_of v.sizes v.online (state_of v) who kind ≡ Some l → IsLeasableFor v kind l.frame
-leased_free v who kind l w h e = (lease_good v.sizes v.online (state_of v) who kind l w h e).leasable
+pub leased_free : (v : JournaledSpace) (who : ℕ) (kind : Kind) (l : Leased) → IsWithinLimits v.sizes → IsSpace v.sizes v.online (space_state v) → lease_of v.sizes v.online (space_state v) who kind ≡ Some l → IsLeasableFor v kind l.frame
+leased_free v who kind l w h e = (lease_good v.sizes v.online (space_state v) who kind l w h e).leasable
 
-pub refused_none : (v : JournaledSpace) (who : ℕ) (kind : Kind) → IsWithinLimits v.sizes → IsSpace v.sizes v.online (state_of v) → (lease_of v.sizes v.online (state_of v) who kind ≡ None) ↔ ((f : ℕ) → ¬ IsLeasableFor v kind f)
-refused_none v who kind w h = lease_none v.sizes v.online (state_of v) who kind w h
+pub refused_none : (v : JournaledSpace) (who : ℕ) (kind : Kind) → IsWithinLimits v.sizes → IsSpace v.sizes v.online (space_state v) → (lease_of v.sizes v.online (space_state v) who kind ≡ None) ↔ ((f : ℕ) → ¬ IsLeasableFor v kind f)
+refused_none v who kind w h = lease_none v.sizes v.online (space_state v) who kind w h

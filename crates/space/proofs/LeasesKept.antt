@@ -11,7 +11,7 @@ use Rattle.evac_model.specs.Geometry.{Sizes, IsWithinLimits, frame_count}
 use Rattle.evac_model.specs.SpaceJournal.{SpaceState, Out, Leased, lease_of, after_lease, Chooses}
 use Rattle.buddy.specs.FreeFrames.{FreeFrames}
 use Rattle.page_blocks.specs.Marks.{Marks}
-use Rattle.space.specs.JournaledSpace.{JournaledSpace, state_of, IsLeasableFor}
+use Rattle.space.specs.JournaledSpace.{JournaledSpace, space_state, IsLeasableFor}
 use Rattle.space.specs.KeptSpace.{KeptSpace, behind, AreOf}
 use Rattle.space.specs.KeptJournal.{IsLeftBy}
 use Rattle.space.specs.SpaceInside.{IsSpace, IsOwed, runs_of}
@@ -115,17 +115,17 @@ lease_owed k owed who frame page kind next within space h chosen e =
 within_left : (v : JournaledSpace) (k : KeptSpace) (used owed room : ℕ) → IsLeftBy v k used owed room → IsWithinLimits k.sizes → IsWithinLimits v.sizes
 within_left v k used owed room h w = let P : KeptSpace → Type 0 = λ x. IsWithinLimits x.sizes in subst P h.left w
 
-space_left : (v : JournaledSpace) (k : KeptSpace) (used owed room : ℕ) → IsLeftBy v k used owed room → IsSpace k.sizes k.online k.state → IsSpace v.sizes v.online (state_of v)
+space_left : (v : JournaledSpace) (k : KeptSpace) (used owed room : ℕ) → IsLeftBy v k used owed room → IsSpace k.sizes k.online k.state → IsSpace v.sizes v.online (space_state v)
 space_left v k used owed room h w = let P : KeptSpace → Type 0 = λ x. IsSpace x.sizes x.online x.state in subst P h.left w
 
-pub chosen_left : (v : JournaledSpace) (k : KeptSpace) (used owed room who : ℕ) (kind : Kind) (frame : ℕ) → IsLeftBy v k used owed room → Chooses (lease_of k.sizes k.online k.state who kind) frame → Chooses (lease_of v.sizes v.online (state_of v) who kind) frame
+pub chosen_left : (v : JournaledSpace) (k : KeptSpace) (used owed room who : ℕ) (kind : Kind) (frame : ℕ) → IsLeftBy v k used owed room → Chooses (lease_of k.sizes k.online k.state who kind) frame → Chooses (lease_of v.sizes v.online (space_state v) who kind) frame
 chosen_left v k used owed room who kind frame h chosen =
     let P : KeptSpace → Type 0 = λ x. Chooses (lease_of x.sizes x.online x.state who kind) frame in subst P h.left chosen
 
 pub free_left : (v : JournaledSpace) (k : KeptSpace) (used owed room who : ℕ) (kind : Kind) (frame : ℕ) → IsLeftBy v k used owed room → IsWithinLimits k.sizes → IsSpace k.sizes k.online k.state → Chooses (lease_of k.sizes k.online k.state who kind) frame → IsLeasableFor v kind frame
 free_left v k used owed room who kind frame h within space chosen =
-    let w : IsLeaseOf (lease_of v.sizes v.online (state_of v) who kind) frame =
-    lease_chosen (lease_of v.sizes v.online (state_of v) who kind) frame (chosen_left v k used owed room who kind frame h chosen) in
+    let w : IsLeaseOf (lease_of v.sizes v.online (space_state v) who kind) frame =
+    lease_chosen (lease_of v.sizes v.online (space_state v) who kind) frame (chosen_left v k used owed room who kind frame h chosen) in
     subst (IsLeasableFor v kind) w.gave (leased_free v who kind w.leased (within_left v k used owed room h within) (space_left v k used owed room h space) w.is)
 
 pub none_left : (v : JournaledSpace) (k : KeptSpace) (used owed room who : ℕ) (kind : Kind) → IsLeftBy v k used owed room → IsWithinLimits k.sizes → IsSpace k.sizes k.online k.state → lease_of k.sizes k.online k.state who kind ≡ None → (frame : ℕ) → ¬ IsLeasableFor v kind frame

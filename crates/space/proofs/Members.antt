@@ -4,58 +4,20 @@ use Rattle.std.specs.List.{filter, list_any, concat, range_with_len}
 use Rattle.std.proofs.Math.Dec.{eqb}
 use Rattle.std.proofs.lemmas.List.{take-append-drop}
 use Rattle.std.proofs.lemmas.List.Elements.{filter-append}
-use Rattle.std.proofs.lemmas.Bool.{cases_lt, cases_order, eqb-true, eq-eqb, ne_eqb, or_parts, or_cases, or_from, or_left, or_right, and_left, both_ways, false_from_ne_true, true≢false}
-use Rattle.evac_model.specs.Numbers.{is_in, is_between}
-use Rattle.evac_model.proofs.Ranges.{between_inside, between_below, between_above}
+use Rattle.std.proofs.lemmas.Bool.{eq-eqb, or_parts, or_cases, or_from, or_left, or_right, and_left, both_ways, false_from_ne_true, true≢false}
+use Rattle.evac_model.specs.Numbers.{is_in}
+use Rattle.evac_model.proofs.Ranges.{between_below}
 use Rattle.frame_cache.specs.Drains.{AreDistinct}
-use Rattle.frame_cache.proofs.Members.{is_in-append, is_in-concat, distinct_left, distinct_right, distinct_apart}
-
-or_assoc : (x y z : Bool) → (x || (y || z)) ≡ ((x || y) || z)
-or_assoc true y z = refl
-or_assoc false y z = refl
-
-or_false : (x : Bool) → (x || false) ≡ x
-or_false true = refl
-or_false false = refl
-
--- a number of a filtered list
-in_cond : (f x : ℕ) (t : Bool) (xs : List ℕ) → is_in f (cond t (x ∷ xs) xs) ≡ ((t && eqb f x) || is_in f xs)
-in_cond f x true xs = refl
-in_cond f x false xs = refl
-
-and_over_or : (e t i u : Bool) → (e ≡ true → u ≡ t) → ((t && e) || (i && u)) ≡ ((e || i) && u)
-and_over_or true t i u h = step t i u (h refl)
-  where
-    step : (t i u : Bool) → u ≡ t → ((t && true) || (i && u)) ≡ ((true || i) && u)
-    step true true true e = refl
-    step true false true e = refl
-    step true i false e = absurd (true≢false (sym e))
-    step false i true e = absurd (true≢false e)
-    step false true false e = refl
-    step false false false e = refl
-and_over_or false true i u h = refl
-and_over_or false false i u h = refl
-
-pub is_in-filter : (t : ℕ → Bool) (f : ℕ) (xs : List ℕ) → is_in f (filter t xs) ≡ (is_in f xs && t f)
-is_in-filter t f [] = refl
-is_in-filter t f (x ∷ xs) =
-    in_cond f x (t x) (filter t xs)
-    ∙ (ap (λ (b : Bool). (t x && eqb f x) || b) (is_in-filter t f xs)
-    ∙ and_over_or (eqb f x) (t x) (is_in f xs) (t f) (λ e. ap t (eqb-true f x e)))
-
-and_both : (a b t : Bool) → ((a && t) || (b && t)) ≡ ((a || b) && t)
-and_both true true true = refl
-and_both true true false = refl
-and_both true false true = refl
-and_both true false false = refl
-and_both false b t = refl
+use Rattle.frame_cache.proofs.Members.{is_in-concat, distinct_left, distinct_right, distinct_apart}
+use Rattle.evac_model.proofs.Members.{is_in-append, is_in-filter, is_in-range_with_len}
+use Rattle.std.proofs.Math.Bool.{or_assoc, and-or_distrib_right}
 
 pub any-filter : (t : ℕ → Bool) (f : ℕ) (xss : List (List ℕ)) → list_any (is_in f) (map (filter t) xss) ≡ (list_any (is_in f) xss && t f)
 any-filter t f [] = refl
 any-filter t f (xs ∷ xss) =
     ap (λ (b : Bool). is_in f (filter t xs) || b) (any-filter t f xss)
     ∙ (ap (λ (b : Bool). b || (list_any (is_in f) xss && t f)) (is_in-filter t f xs)
-    ∙ and_both (is_in f xs) (list_any (is_in f) xss) (t f))
+    ∙ sym (and-or_distrib_right (is_in f xs) (list_any (is_in f) xss) (t f)))
 
 -- a filter that keeps all
 pub filter_all : (t : ℕ → Bool) (xs : List ℕ) → ((f : ℕ) → is_in f xs ≡ true → t f ≡ true) → filter t xs ≡ xs
@@ -108,33 +70,10 @@ any-set_empty f (ys ∷ yss) (suc who) xs l e =
 pub any-set_rest : (f : ℕ) (xss : List (List ℕ)) (who x : ℕ) (xs : List ℕ) → get_or xss who [] ≡ x ∷ xs → list_any (is_in f) xss ≡ (eqb f x || list_any (is_in f) (set xss who xs))
 any-set_rest f [] who x xs e = cc
 any-set_rest f (ys ∷ yss) zero x xs e =
-    ap (λ (zs : List ℕ). is_in f zs || list_any (is_in f) yss) e ∙ sym (or_assoc (eqb f x) (is_in f xs) (list_any (is_in f) yss))
+    ap (λ (zs : List ℕ). is_in f zs || list_any (is_in f) yss) e ∙ (or_assoc (eqb f x) (is_in f xs) (list_any (is_in f) yss))
 any-set_rest f (ys ∷ yss) (suc who) x xs e =
     ap (λ (b : Bool). is_in f ys || b) (any-set_rest f yss who x xs e)
     ∙ or_swap (is_in f ys) (eqb f x) (list_any (is_in f) (set yss who xs))
-
--- a number of a range
-pub range_more : (f a n : ℕ) → (eqb f a || is_between (a + 1) (a + 1 + n) f) ≡ is_between a (a + suc n) f
-range_more f a n =
-    elim (cases_order f a) [
-      | inl e ↦ or_left _ _ (eq-eqb f a e) ∙ sym (between_inside a (a + suc n) f (omega (arith, e)) (omega (arith, e)))
-      | inr other ↦ elim other [
-        | inl l ↦
-            or_from _ _ (ne_eqb f a (λ e. omega (arith, e, l))) (between_below (a + 1) (a + 1 + n) f (omega arith)) ∙ sym (between_below a (a + suc n) f l)
-        | inr g ↦ ap (λ (b : Bool). b || is_between (a + 1) (a + 1 + n) f) (ne_eqb f a (λ e. omega (arith, e, g))) ∙ elim (cases_lt f (a + 1 + n)) [
-          | inl l ↦ between_inside (a + 1) (a + 1 + n) f (omega arith) l ∙ sym (between_inside a (a + suc n) f (omega arith) (omega arith))
-          | inr m ↦ between_above (a + 1) (a + 1 + n) f m ∙ sym (between_above a (a + suc n) f (omega arith))
-        ]
-      ]
-    ]
-
-pub range_none : (f a : ℕ) → is_between a (a + 0) f ≡ false
-range_none f a =
-    elim (cases_lt f a) [ inl l ↦ between_below a (a + 0) f l | inr g ↦ between_above a (a + 0) f (omega arith) ]
-
-pub is_in-range_with_len : (f a n : ℕ) → is_in f (range_with_len a n) ≡ is_between a (a + n) f
-is_in-range_with_len f a zero = sym (range_none f a)
-is_in-range_with_len f a (suc n) = ap (λ (b : Bool). eqb f a || b) (is_in-range_with_len f (a + 1) n) ∙ range_more f a n
 
 -- lists in which no number stands twice
 pub distinct-range_with_len : (a n : ℕ) → AreDistinct (range_with_len a n)

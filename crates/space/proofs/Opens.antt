@@ -15,13 +15,12 @@ use Rattle.evac_model.specs.Geometry.{Sizes, IsThereAtStart, frame_count, first_
 use Rattle.evac_model.specs.FreeRuns.{fits}
 use Rattle.evac_model.specs.Numbers.{numbers_where, is_in, is_between, IsRisingBelow}
 use Rattle.evac_model.specs.SpaceJournal.{SpaceState, Out, out_for, is_frame_of, is_frame_in, with_block, out_at_start, space_at_start}
-use Rattle.evac_model.proofs.Numbers.{numbers_agree, is_in-numbers_where, numbers_where-none}
-use Rattle.evac_model.proofs.Ranges.{between_inside, between_below, between_above}
+use Rattle.evac_model.proofs.Numbers.{numbers_agree, is_in-numbers_where, numbers_where-none, numbers_rising}
+use Rattle.evac_model.proofs.Ranges.{between_inside, between_below, between_above, between_empty}
 use Rattle.buddy.specs.FreeFrames.{FreeFrames, no_frames, with_frames, with_withdrawn}
 use Rattle.frame_cache.specs.Drains.{IsGivable}
-use Rattle.frame_cache.proofs.Givings.{with_both, givable_still}
-use Rattle.page_blocks.specs.BlocksInside.{blocks_marked}
-use Rattle.page_blocks.specs.Marks.{Marks, frames_out, block_frames_out, isolation, is_unmovable, page_and_kind}
+use Rattle.frame_cache.proofs.Givings.{with_both, givable_still, with_frames_same}
+use Rattle.page_blocks.specs.Marks.{Marks, frames_out, block_frames_out, isolation, is_unmovable, page_and_kind, blocks_marked}
 use Rattle.evac_model.specs.declared.space.Unmovable.{Unmovable}
 use Rattle.evac_model.specs.declared.names.PageNo.{PageNo}
 use Rattle.std.specs.Result.{OnOk}
@@ -29,9 +28,11 @@ use Rattle.space.specs.JournaledSpace.{AreStartFrames}
 use Rattle.space.specs.KeptSpace.{KeptSpace, AreOf}
 use Rattle.space.specs.Opening.{unplugged, marks_at_open, marks_isolated, marks_at_start, runs_at_open}
 use Rattle.space.specs.SpaceInside.{IsSpace, IsOwed, runs_of}
-use Rattle.space.proofs.BlockFrames.{numbers_rising, frame_in_witness, frame_from}
+use Rattle.space.proofs.BlockFrames.{frame_in_witness, frame_from}
 use Rattle.space.proofs.RunsOfSpaces.{runs_are}
-use Rattle.std.proofs.lemmas.Nat.{mul-le}
+use Rattle.std.proofs.Math.Nat.{mul-le-mul_right}
+use Rattle.evac_model.proofs.Lists.{all_at, get_or-replicate_same}
+use Rattle.std.proofs.Math.Bool.{or-false}
 
 -- the numbers of a range, by a test
 filter_between_in : (a n c k : ℕ) → a ≤ c → a + n ≤ c + k → c ≤ a + n → filter (is_between a (a + n)) (range_with_len c k) ≡ range_with_len c (a + n - c)
@@ -84,11 +85,8 @@ marks_to s b = record { sizes = s; isolated = numbers_where (is_between s.plugge
 abbrev pub runs_to : Sizes → (online : Kind) → (b : ℕ) → FreeFrames
 runs_to s online b = record { sizes = s; online = online; free = []; aside = []; withdrawn = numbers_where (is_between s.plugged b) s.managed }
 
-between_none : (a k : ℕ) → is_between a a k ≡ false
-between_none a k = elim (cases_lt k a) [ inl l ↦ between_below a a k l | inr g ↦ between_above a a k g ]
-
 none_to : (s : Sizes) → numbers_where (is_between s.plugged s.plugged) s.managed ≡ []
-none_to s = numbers_where-none (is_between s.plugged s.plugged) s.managed (between_none s.plugged)
+none_to s = numbers_where-none (is_between s.plugged s.plugged) s.managed (between_empty s.plugged)
 
 pub marks_first : (s : Sizes) → marks_at_open s ≡ marks_to s s.plugged
 marks_first s = λ i. record { sizes = s; isolated = sym (none_to s) i; out = replicate (frame_count s) None }
@@ -192,22 +190,12 @@ marks_more s start left p l e there =
     λ i. record { sizes = s; isolated = unplugged s; out = out i }
 
 -- a start page's frame is one of the machine's
-all_at_place : (P : StartPage → Type 0) (start : List StartPage) (i : ℕ) (d : StartPage) → AllByRecursion P start → i < length start → P (get_or start i d)
-all_at_place P [] i d h l = absurd (omega arith)
-all_at_place P (p ∷ start) zero d h l = h.0
-all_at_place P (p ∷ start) (suc i) d h l = all_at_place P start i d h.1 (omega arith)
-
-product_le : (a b size : ℕ) → a ≤ b → a * size ≤ b * size
-product_le a b size h = mul-le a size b size h (omega arith)
 
 pub start_frame_there : (s : Sizes) (start : List StartPage) (i : ℕ) (p : StartPage) → s.plugged ≤ s.managed → AllByRecursion (λ q. IsThereAtStart s q.frame.0) start → i < length start → p ≡ get_or start i p → p.frame.0 < frame_count s
 start_frame_there s start i p few h l e =
-    let there : IsThereAtStart s (get_or start i p).frame.0 = all_at_place (λ q. IsThereAtStart s q.frame.0) start i p h l in
+    let there : IsThereAtStart s (get_or start i p).frame.0 = all_at (λ q. IsThereAtStart s q.frame.0) start h i p l in
     let same : p.frame.0 ≡ (get_or start i p).frame.0 = ap (λ (q : StartPage). q.frame.0) e in
-    omega (arith, there, same, product_le (s.boot + s.plugged) (s.boot + s.managed) s.block (omega arith))
-
-with_same : (p q : ℕ → Bool) (r : FreeFrames) → ((f : ℕ) → p f ≡ q f) → with_frames p r ≡ with_frames q r
-with_same p q r same = ap (λ (t : ℕ → Bool). with_frames t r) (λ i f. same f i)
+    omega (arith, there, same, mul-le-mul_right {m = s.boot + s.plugged} {n = s.boot + s.managed} s.block (omega arith))
 
 -- the frames given below i: those that aren't out
 abbrev pub given_to : List StartPage → (i : ℕ) → ℕ → Bool
@@ -234,13 +222,9 @@ given_push i f o before here = elim (cases_lt f i) [
   ]
 ]
 
-or_eq_false : (x : Bool) (e : Bool) → e ≡ false → (x || e) ≡ x
-or_eq_false true e h = refl
-or_eq_false false e h = h
-
 given_same_below : (i f : ℕ) (o : Bool) → f < i → ((ltb f i && o) || eqb f i) ≡ (ltb f (i + 1) && o)
 given_same_below i f o l =
-    or_eq_false (ltb f i && o) (eqb f i) (ne_eqb f i (λ e. omega (arith, e)))
+    ap (λ (t : Bool). ltb f i && o || t) (ne_eqb f i (λ e. omega (arith, e))) ∙ or-false (ltb f i && o)
     ∙ ap (λ (t : Bool). t && o) (lt-ltb f i l ∙ sym (lt-ltb f (i + 1) (omega arith)))
 
 pub given_more : (start : List StartPage) (i f : ℕ) → out_at_start start i ≡ None → (given_to start i f || eqb f i) ≡ given_to start (i + 1) f
@@ -265,10 +249,10 @@ given_still start i f o out = elim (cases_lt f i) [
 pub runs_more : (s : Sizes) (online : Kind) (start : List StartPage) (i : ℕ) (r r2 : FreeFrames) → out_at_start start i ≡ None → r ≡ with_frames (given_to start i) (runs_at_open s online) → r2 ≡ with_frames (λ f. eqb f i) r → r2 ≡ with_frames (given_to start (i + 1)) (runs_at_open s online)
 runs_more s online start i r r2 none e e2 =
     e2 ∙ ap (with_frames (λ f. eqb f i)) e ∙ with_both (given_to start i) (λ f. eqb f i) (runs_at_open s online)
-    ∙ with_same _ _ (runs_at_open s online) (λ f. given_more start i f none)
+    ∙ with_frames_same _ _ (runs_at_open s online) (λ f. given_more start i f none)
 
 pub runs_still : (s : Sizes) (online : Kind) (start : List StartPage) (i : ℕ) (r : FreeFrames) (o : Out) → out_at_start start i ≡ Some o → r ≡ with_frames (given_to start i) (runs_at_open s online) → r ≡ with_frames (given_to start (i + 1)) (runs_at_open s online)
-runs_still s online start i r o out e = e ∙ with_same _ _ (runs_at_open s online) (λ f. given_still start i f o out)
+runs_still s online start i r o out e = e ∙ with_frames_same _ _ (runs_at_open s online) (λ f. given_still start i f o out)
 
 pub next_givable : (s : Sizes) (online : Kind) (start : List StartPage) (i : ℕ) (r : FreeFrames) → i < frame_count s → r ≡ with_frames (given_to start i) (runs_at_open s online) → IsGivable r i
 next_givable s online start i r l e =
@@ -324,19 +308,13 @@ out_past s start f h g = elim (cases_lt f (frame_count s)) [
   | inr past ↦ get_or_past _ f None (omega (arith, length-map-range_with_len (out_at_start start) 0 (frame_count s)))
 ]
 
-no_cache : (who : ℕ) → get_or (replicate 17 (let xs : List ℕ = [] in xs)) who [] ≡ []
-no_cache who = elim (cases_lt who 17) [
-  | inl l ↦ get_or-replicate 17 who [] [] l
-  | inr g ↦ get_or_past (replicate 17 []) who [] (omega (arith, length-replicate {A = List ℕ} 17 []))
-]
-
 unplugged_rising : (s : Sizes) → s.plugged ≤ s.managed → IsRisingBelow s.managed (unplugged s)
 unplugged_rising s few = subst (IsRisingBelow s.managed) (numbers_between s.plugged s.managed few) (numbers_rising (is_between s.plugged s.managed) s.managed)
 
 emptied_at_start : (s : Sizes) (online : Kind) (start : List StartPage) (f : ℕ) → AreStartFrames s online start → is_frame_in s (unplugged s) f ≡ true → out_for (space_at_start s start) f ≡ None
 emptied_at_start s online start f h there =
     let w : (b : ℕ) × (is_in b (unplugged s) ≡ true) × (is_frame_of s b f ≡ true) = frame_in_witness s (unplugged s) f there in
-    let from : (s.boot + s.plugged) * s.block ≤ first_frame s w.0 = product_le (s.boot + s.plugged) (s.boot + w.0) s.block (omega (arith, in_unplugged s.plugged (s.managed - s.plugged) w.0 w.1)) in
+    let from : (s.boot + s.plugged) * s.block ≤ first_frame s w.0 = mul-le-mul_right s.block (omega (arith, in_unplugged s.plugged (s.managed - s.plugged) w.0 w.1)) in
     out_past s start f h.there (omega (arith, from, frame_from s w.0 f w.2))
 
 -- a page's frame takes it
@@ -368,7 +346,7 @@ space_at_start_is_space s online start few h = record {
   isolated_movable = λ f x there e. let none : None ≡ Some x = sym (emptied_at_start s online start f h there) ∙ e in absurd (cc none);
   caches = record {
     callers = length-replicate {A = List ℕ} 17 [];
-    few = λ who. subst (λ (xs : List ℕ). length xs ≤ 8) (sym (no_cache who)) (omega arith);
+    few = λ who. subst (λ (xs : List ℕ). length xs ≤ 8) (sym (get_or-replicate_same {A = List ℕ} 17 who [])) (omega arith);
   };
   distinct = tt;
   cached_there = λ f c. absurd (false≢true c);

@@ -7,7 +7,7 @@ use Rattle.evac_model.specs.Geometry.{Sizes, first_frame}
 use Rattle.evac_model.specs.SpaceJournal.{SpaceState, Out, IsEmptied, HasMovableAlone}
 use Rattle.buddy.specs.FreeFrames.{FreeFrames}
 use Rattle.page_blocks.specs.Marks.{Marks, with_frame, frames_out, block_frames_out, is_unmovable, isolation}
-use Rattle.space.specs.JournaledSpace.{JournaledSpace, state_of}
+use Rattle.space.specs.JournaledSpace.{JournaledSpace, space_state}
 use Rattle.space.specs.KeptSpace.{KeptSpace, AreOf}
 use Rattle.space.specs.KeptJournal.{IsLeftBy}
 use Rattle.space.specs.Refusals.{frames_out_of, emptiness}
@@ -19,7 +19,7 @@ none_found : (frames : List (ℕ × Out)) → Ok tt ≡ emptiness frames → fra
 none_found [] e = refl
 none_found (f ∷ rest) e = absurd (cc e)
 
-pub emptied_ok : (v : JournaledSpace) (k : KeptSpace) (used owed room : ℕ) (b : ℕ) → IsLeftBy v k used owed room → Ok tt ≡ emptiness (frames_out_of k.sizes k.state b) → IsEmptied v.sizes (state_of v) b
+pub emptied_ok : (v : JournaledSpace) (k : KeptSpace) (used owed room : ℕ) (b : ℕ) → IsLeftBy v k used owed room → Ok tt ≡ emptiness (frames_out_of k.sizes k.state b) → IsEmptied v.sizes (space_state v) b
 emptied_ok v k used owed room b h e =
     let P : KeptSpace → Type 0 = λ x. IsEmptied x.sizes x.state b in
     subst P h.left (emptied_from k.sizes k.state b (none_found (frames_out_of k.sizes k.state b) e))
@@ -63,7 +63,7 @@ pub movable_kept : (k : KeptSpace) (r : FreeFrames) (m : Marks) (held : List (Li
 movable_kept k r m held bits b h e =
     movable_alone k.sizes k.state b (none_unmovable _ (e ∙ ap (λ (x : Marks). isolation (filter is_unmovable (block_frames_out x b))) h.marks))
 
-pub movable_ok : (v : JournaledSpace) (k : KeptSpace) (used owed room : ℕ) (b : ℕ) → IsLeftBy v k used owed room → Ok tt ≡ isolation (filter is_unmovable (frames_out_of k.sizes k.state b)) → HasMovableAlone v.sizes (state_of v) b
+pub movable_ok : (v : JournaledSpace) (k : KeptSpace) (used owed room : ℕ) (b : ℕ) → IsLeftBy v k used owed room → Ok tt ≡ isolation (filter is_unmovable (frames_out_of k.sizes k.state b)) → HasMovableAlone v.sizes (space_state v) b
 movable_ok v k used owed room b h e =
     let P : KeptSpace → Type 0 = λ x. HasMovableAlone x.sizes x.state b in
     subst P h.left (movable_alone k.sizes k.state b (none_unmovable (filter is_unmovable (frames_out_of k.sizes k.state b)) e))

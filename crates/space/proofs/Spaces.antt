@@ -11,11 +11,15 @@ use Rattle.evac_model.specs.Geometry.{Sizes, frame_count}
 use Rattle.evac_model.specs.Numbers.{numbers_where, is_in, is_between}
 use Rattle.evac_model.specs.FreeRuns.{fits, is_all_free}
 use Rattle.evac_model.specs.SpaceJournal.{SpaceState, Out, Leased, out_for, is_frame_in, free_frames, drained, after_lease}
-use Rattle.evac_model.proofs.Numbers.{numbers_agree, is_in-numbers_where, is_in-numbers_where_past}
-use Rattle.buddy.specs.FreeFrames.{with_frames, after_take}
+use Rattle.evac_model.proofs.Numbers.{numbers_agree, is_in-numbers_where, is_in-numbers_where_past, numbers_rising}
+use Rattle.buddy.specs.FreeFrames.{with_frames, after_take, FreeFrames}
 use Rattle.space.specs.SpaceInside.{IsSpace, aside_frames, runs_of}
 use Rattle.space.proofs.CachesBehind.{caches_filtered}
-use Rattle.space.proofs.Members.{any-filter, filter_each_all, distinct-filter_each, any-set_empty, any-set_rest, any-get_or, is_in-range_with_len, range_more, range_none}
+use Rattle.space.proofs.Members.{any-filter, filter_each_all, distinct-filter_each, any-set_empty, any-set_rest, any-get_or}
+use Rattle.evac_model.proofs.Members.{is_in-range_with_len, between_first}
+use Rattle.std.proofs.Math.Bool.{or-false, and-true, and-false}
+use Rattle.evac_model.proofs.Ranges.{between_none}
+use Rattle.evac_model.proofs.Unions.{without_range-below}
 
 -- a frame that is free
 pub record IsFreeFrame (s : Sizes) (st : SpaceState) (f : ℕ) : Type 0 where
@@ -57,27 +61,15 @@ free_frame_in s st f h =
 
 -- ---- a drain
 
-and_true : (x : Bool) → (x && true) ≡ x
-and_true true = refl
-and_true false = refl
-
-and_false : (x : Bool) → (x && false) ≡ false
-and_false true = refl
-and_false false = refl
-
-or_false : (x : Bool) → (x || false) ≡ x
-or_false true = refl
-or_false false = refl
-
-free_drained : (out isolated cached test : Bool) → (cached ≡ true → out ≡ false) → (cached ≡ true → isolated ≡ false) → ((not out && not isolated && not cached) || ((cached && test) && not isolated)) ≡ (not out && not isolated && not (cached && not test))
-free_drained out isolated false test o i = or_false _
+pub free_drained : (out isolated cached test : Bool) → (cached ≡ true → out ≡ false) → (cached ≡ true → isolated ≡ false) → ((not out && not isolated && not cached) || ((cached && test) && not isolated)) ≡ (not out && not isolated && not (cached && not test))
+free_drained out isolated false test o i = or-false _
 free_drained true isolated true test o i = cc (o refl)
 free_drained false true true test o i = cc (i refl)
 free_drained false false true true o i = refl
 free_drained false false true false o i = refl
 
-aside_drained : (out isolated cached test : Bool) → (cached ≡ true → isolated ≡ false) → ((not out && isolated) || ((cached && test) && isolated)) ≡ (not out && isolated)
-aside_drained out isolated false test i = or_false _
+pub aside_drained : (out isolated cached test : Bool) → (cached ≡ true → isolated ≡ false) → ((not out && isolated) || ((cached && test) && isolated)) ≡ (not out && isolated)
+aside_drained out isolated false test i = or-false _
 aside_drained out true true test i = cc (i refl)
 aside_drained true false true true i = refl
 aside_drained true false true false i = refl
@@ -165,7 +157,7 @@ out_set out first f o l =
 aside_leased : (here out isolated : Bool) → (here ≡ true → isolated ≡ false) → (not (here || out) && isolated) ≡ (not out && isolated)
 aside_leased false out isolated h = refl
 aside_leased true out true h = cc (h refl)
-aside_leased true out false h = sym (and_false (not out))
+aside_leased true out false h = sym (and-false (not out))
 
 -- the frames kept aside stay, and of the free frames go those that the test names
 pub leased_runs : (s : Sizes) (online : Kind) (st : SpaceState) (l : Leased) (page : ℕ) (kind : Kind) (gone : ℕ → Bool) → length st.out ≡ frame_count s → l.frame < frame_count s → is_frame_in s st.isolated l.frame ≡ false → ((f : ℕ) → (not (eqb f l.frame || is_some (out_for st f)) && not (is_frame_in s st.isolated f) && not (list_any (is_in f) l.caches)) ≡ ((not (is_some (out_for st f)) && not (is_frame_in s st.isolated f) && not (list_any (is_in f) st.caches)) && not (gone f))) → runs_of s online (after_lease st (Some l) page kind) ≡ record (runs_of s online st) { free = numbers_where (λ f. is_in f (free_frames s st) && not (gone f)) (frame_count s) }
@@ -186,22 +178,30 @@ leased_runs s online st l page kind gone frames below not_isolated same =
 
 -- from a run: its lowest frame, the others going into an empty cache
 from_run_free : (here out isolated rest cached : Bool) → (not (here || out) && not isolated && not (rest || cached)) ≡ ((not out && not isolated && not cached) && not (here || rest))
-from_run_free true out isolated rest cached = sym (and_false (not out && not isolated && not cached))
+from_run_free true out isolated rest cached = sym (and-false (not out && not isolated && not cached))
 from_run_free false true isolated rest cached = refl
 from_run_free false false true rest cached = refl
-from_run_free false false false true cached = sym (and_false (not cached))
-from_run_free false false false false cached = sym (and_true (not cached))
+from_run_free false false false true cached = sym (and-false (not cached))
+from_run_free false false false false cached = sym (and-true (not cached))
+
+-- the runs behind a take, whose frames are rising
+taken_runs : (s : Sizes) (online : Kind) (st : SpaceState) (order first : ℕ) → (let r : FreeFrames = record (runs_of s online st) { free = numbers_where (λ f. is_in f (free_frames s st) && not (is_between first (first + 2 ^ order) f)) (frame_count s) } in r) ≡ after_take order (Some first) (runs_of s online st)
+unfolding is_free_in
+taken_runs s online st order first =
+    ap (λ (xs : List ℕ). record (runs_of s online st) { free = xs })
+    (sym (without_range-below first (2 ^ order) (frame_count s) (free_frames s st) (numbers_rising (is_free_in s st) (frame_count s))))
 
 pub run_taken : (s : Sizes) (online : Kind) (st : SpaceState) (who order first page : ℕ) (kind : Kind) → IsSpace s online st → who ≤ 16 → get_or st.caches who [] ≡ [] → IsFreeFrame s st first → 0 < 2 ^ order → runs_of s online (after_lease st (Some (record { frame = first; caches = set st.caches who (range_with_len (first + 1) (2 ^ order - 1)) })) page kind) ≡ after_take order (Some first) (runs_of s online st)
 run_taken s online st who order first page kind h caller empty free some =
     let rest : ℕ = 2 ^ order - 1 in
     let whole : (f : ℕ) → (eqb f first || is_between (first + 1) (first + 1 + rest) f) ≡ is_between first (first + 2 ^ order) f =
-    λ f. range_more f first rest ∙ ap (λ (k : ℕ). is_between first (first + k) f) (let e : suc rest ≡ 2 ^ order = omega arith in e) in
+    λ f. between_first f first rest ∙ ap (λ (k : ℕ). is_between first (first + k) f) (let e : suc rest ≡ 2 ^ order = omega arith in e) in
     leased_runs s online st (record { frame = first; caches = set st.caches who (range_with_len (first + 1) rest) }) page kind (is_between first (first + 2 ^ order)) h.out free.below free.not_isolated (λ f.
     ap (λ (t : Bool). not (eqb f first || is_some (out_for st f)) && not (is_frame_in s st.isolated f) && not t)
     (any-set_empty f st.caches who (range_with_len (first + 1) rest) (omega (arith, h.caches.callers, caller)) empty ∙ ap (λ (t : Bool). t || list_any (is_in f) st.caches) (is_in-range_with_len f (first + 1) rest))
     ∙ (from_run_free (eqb f first) (is_some (out_for st f)) (is_frame_in s st.isolated f) (is_between (first + 1) (first + 1 + rest) f) (list_any (is_in f) st.caches)
     ∙ ap (λ (t : Bool). (not (is_some (out_for st f)) && not (is_frame_in s st.isolated f) && not (list_any (is_in f) st.caches)) && not t) (whole f)))
+    ∙ taken_runs s online st order first
 
 -- a run of one frame
 pub frame_taken : (s : Sizes) (online : Kind) (st : SpaceState) (first page : ℕ) (kind : Kind) → IsSpace s online st → IsFreeFrame s st first → runs_of s online (after_lease st (Some (record { frame = first; caches = st.caches })) page kind) ≡ after_take 0 (Some first) (runs_of s online st)
@@ -209,20 +209,21 @@ frame_taken s online st first page kind h free =
     leased_runs s online st (record { frame = first; caches = st.caches }) page kind (is_between first (first + 1)) h.out free.below free.not_isolated (λ f.
     from_run_free (eqb f first) (is_some (out_for st f)) (is_frame_in s st.isolated f) false (list_any (is_in f) st.caches)
     ∙ ap (λ (t : Bool). (not (is_some (out_for st f)) && not (is_frame_in s st.isolated f) && not (list_any (is_in f) st.caches)) && not t)
-    (ap (λ (t : Bool). eqb f first || t) (sym (range_none f (first + 1))) ∙ range_more f first 0))
+    (ap (λ (t : Bool). eqb f first || t) (sym (between_none (first + 1) f)) ∙ between_first f first 0))
+    ∙ taken_runs s online st 0 first
 
 -- from a cache: the frame put last
 from_cache_free : (here out isolated rest : Bool) → (not (here || out) && not isolated && not rest) ≡ (not out && not isolated && not (here || rest))
-from_cache_free true out isolated rest = sym (and_false (not out && not isolated))
+from_cache_free true out isolated rest = sym (and-false (not out && not isolated))
 from_cache_free false out isolated rest = refl
 
 pub cached_taken : (s : Sizes) (online : Kind) (st : SpaceState) (who first page : ℕ) (rest : List ℕ) (kind : Kind) → IsSpace s online st → get_or st.caches who [] ≡ first ∷ rest → runs_of s online (after_lease st (Some (record { frame = first; caches = set st.caches who rest })) page kind) ≡ runs_of s online st
 cached_taken s online st who first page rest kind h held =
     let there : list_any (is_in first) st.caches ≡ true = any-get_or first st.caches who (ap (is_in first) held ∙ or_left _ _ (eq-eqb first first refl)) in
     let same : numbers_where (λ f. is_in f (free_frames s st) && not false) (frame_count s) ≡ free_frames s st =
-    numbers_agree _ _ (frame_count s) (λ f l. and_true (is_in f (free_frames s st)) ∙ is_in-numbers_where (λ k. not (is_some (out_for st k)) && not (is_frame_in s st.isolated k) && not (list_any (is_in k) st.caches)) (frame_count s) f l) in
+    numbers_agree _ _ (frame_count s) (λ f l. and-true (is_in f (free_frames s st)) ∙ is_in-numbers_where (λ k. not (is_some (out_for st k)) && not (is_frame_in s st.isolated k) && not (list_any (is_in k) st.caches)) (frame_count s) f l) in
     leased_runs s online st (record { frame = first; caches = set st.caches who rest }) page kind (λ f. false) h.out (h.cached_there first there) (h.cached_not_isolated first there) (λ f.
     from_cache_free (eqb f first) (is_some (out_for st f)) (is_frame_in s st.isolated f) (list_any (is_in f) (set st.caches who rest))
     ∙ (ap (λ (t : Bool). not (is_some (out_for st f)) && not (is_frame_in s st.isolated f) && not t) (sym (any-set_rest f st.caches who first rest held))
-    ∙ sym (and_true _)))
+    ∙ sym (and-true _)))
     ∙ ap (λ (xs : List ℕ). record (runs_of s online st) { free = xs }) same

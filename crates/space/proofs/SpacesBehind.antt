@@ -4,7 +4,7 @@ use Rattle.std.specs.List.{list_any, filter}
 use Rattle.std.specs.Option.{is_some}
 use Rattle.std.proofs.Math.Dec.{eqb}
 use Rattle.std.proofs.Math.ListN.{set}
-use Rattle.std.proofs.lemmas.Bool.{cases_Bool, cases_eq, cases_lt, both_ways, false≢true, eqb-true, eq-eqb, ne_eqb, and_parts, and_left, or_cases, or_left, or_from}
+use Rattle.std.proofs.lemmas.Bool.{cases_Bool, cases_eq, cases_lt, both_ways, false≢true, eqb-true, eq-eqb, ne_eqb, and_parts, and_left, or_cases, or_left, or_from, not-true}
 use Rattle.std.proofs.lemmas.List.{length-set, get_or-set_same, get_or-set_other, get_or_past}
 use Rattle.evac_model.specs.declared.names.Kind.{Kind}
 use Rattle.evac_model.specs.declared.names.Kind.TheVariants.{Movable, Unmovable}
@@ -17,6 +17,7 @@ use Rattle.space.proofs.Members.{any-filter, distinct-filter_each}
 use Rattle.space.proofs.BlockFrames.{frame_in-with_block, frame_in-without_block, frame_in_from, is_in-with_block, is_in-without_block, is_in_bound, rising-with_block, rising-without_block}
 use Rattle.space.proofs.CachesBehind.{caches_filtered, caches_put_back, distinct_put_back, put_back_frame, put_back_other, put_back_kept, pushed_in, put_back_gone, put_back_from}
 use Rattle.space.proofs.RunsOfSpaces.{is_out, is_isolated, is_cached, is_free, is_aside, runs_are, runs_given, runs_withdrawn, runs_restored}
+use Rattle.space.proofs.Spaces.{free_drained, aside_drained}
 
 -- the states behind the actions
 abbrev pub isolated_state : Sizes → (block : ℕ) → SpaceState → SpaceState
@@ -44,14 +45,11 @@ abbrev pub returned_state : (who frame : ℕ) → SpaceState → SpaceState
 returned_state who frame st = record st { out = set st.out frame None; caches = put_back st.caches who frame }
 
 -- isolation
-and_not : (t : Bool) → not t ≡ true → t ≡ false
-and_not true h = absurd (false≢true h)
-and_not false h = refl
 
 cached_drained : (s : Sizes) (b f : ℕ) (caches : List (List ℕ)) → list_any (is_in f) (map (filter (λ x. not (is_frame_of s b x))) caches) ≡ true → (list_any (is_in f) caches ≡ true) × (is_frame_of s b f ≡ false)
 cached_drained s b f caches h =
     let parts : (list_any (is_in f) caches ≡ true) × (not (is_frame_of s b f) ≡ true) = and_parts _ _ (sym (any-filter (λ x. not (is_frame_of s b x)) f caches) ∙ h) in
-    (parts.0, and_not (is_frame_of s b f) parts.1)
+    (parts.0, not-true (is_frame_of s b f) parts.1)
 
 movable_else : (k : Kind) → (k ≡ Unmovable → ⊥) → k ≡ Movable
 movable_else Movable ne = refl
@@ -82,30 +80,6 @@ space_isolated s online st b h l alone = record {
       frame_in-with_block s b st.isolated f h.isolated l ∙ or_from _ _ (h.cached_not_isolated f d.0) d.1;
 }
 
--- out, isolated, cached, of the block
-free_drained : (o i c m : Bool) → (c ≡ true → o ≡ false) → (c ≡ true → i ≡ false) → (not o && not i && not (c && not m)) ≡ ((not o && not i && not c) || ((c && m) && not i))
-free_drained o i false m ho hi = sym (or_false (not o && not i && true))
-  where
-    or_false : (t : Bool) → (t || false) ≡ t
-    or_false true = refl
-    or_false false = refl
-free_drained true i true m ho hi = absurd (false≢true (sym (ho refl)))
-free_drained false true true m ho hi = absurd (false≢true (sym (hi refl)))
-free_drained false false true true ho hi = refl
-free_drained false false true false ho hi = refl
-
-aside_drained : (o i c m : Bool) → (c ≡ true → i ≡ false) → (not o && i) ≡ ((not o && i) || ((c && m) && i))
-aside_drained o i false m hi = sym (or_false (not o && i))
-  where
-    or_false : (t : Bool) → (t || false) ≡ t
-    or_false true = refl
-    or_false false = refl
-aside_drained o true true m hi = absurd (false≢true (sym (hi refl)))
-aside_drained true false true true hi = refl
-aside_drained true false true false hi = refl
-aside_drained false false true true hi = refl
-aside_drained false false true false hi = refl
-
 none_out : (o : Option Out) → o ≡ None → is_some o ≡ false
 none_out o e = ap is_some e
 
@@ -114,8 +88,8 @@ runs_drained s online st b h =
     runs_given s online st (drained_state s b st) (λ f. is_cached st f && is_frame_of s b f) refl
     (λ f l.
     ap (λ (t : Bool). not (is_out st f) && not (is_isolated s st f) && not t) (any-filter (λ x. not (is_frame_of s b x)) f st.caches)
-    ∙ free_drained (is_out st f) (is_isolated s st f) (is_cached st f) (is_frame_of s b f) (λ c. none_out _ (h.cached_not_out f c)) (h.cached_not_isolated f))
-    (λ f l. aside_drained (is_out st f) (is_isolated s st f) (is_cached st f) (is_frame_of s b f) (h.cached_not_isolated f))
+    ∙ sym (free_drained (is_out st f) (is_isolated s st f) (is_cached st f) (is_frame_of s b f) (λ c. none_out _ (h.cached_not_out f c)) (h.cached_not_isolated f)))
+    (λ f l. sym (aside_drained (is_out st f) (is_isolated s st f) (is_cached st f) (is_frame_of s b f) (h.cached_not_isolated f)))
 
 free_withdrawn : (o i c m : Bool) → (not o && not (i || m) && not (c && not m)) ≡ ((not o && not i && not (c && not m)) && not m)
 free_withdrawn true i c m = refl

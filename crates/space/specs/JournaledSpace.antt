@@ -17,8 +17,8 @@ pub record JournaledSpace : Type 0 where
   pub journal : List SpaceAction
 
 -- the space now
-abbrev pub state_of : JournaledSpace → SpaceState
-state_of v = space_after v.sizes v.online v.opening v.journal
+abbrev pub space_state : JournaledSpace → SpaceState
+space_state v = space_after v.sizes v.online v.opening v.journal
 
 -- the space behind one more action
 abbrev pub with_action : SpaceAction → JournaledSpace → JournaledSpace
@@ -26,7 +26,7 @@ with_action a v = record v { journal = v.journal ++ a ∷ [] }
 
 -- a frame that a lease for a page of the kind may give now
 abbrev pub IsLeasableFor : JournaledSpace → (kind : Kind) → (frame : ℕ) → Type 0
-IsLeasableFor v kind frame = IsLeasable v.sizes v.online (state_of v) kind frame
+IsLeasableFor v kind frame = IsLeasable v.sizes v.online (space_state v) kind frame
 
 -- frames that a space may open with: they are there at the start, and take their pages
 pub record AreStartFrames (s : Sizes) (online : Kind) (start : List StartPage) : Type 0 where

@@ -4,7 +4,7 @@ use Rattle.evac_model.specs.declared.scenario.StartPage.{StartPage}
 use Rattle.evac_model.specs.declared.space.SpaceAction.{SpaceAction}
 use Rattle.evac_model.specs.Geometry.{IsWithinLimits}
 use Rattle.evac_model.specs.SpaceJournal.{space_at_start, IsPossibleJournal}
-use Rattle.space.specs.JournaledSpace.{JournaledSpace, state_of}
+use Rattle.space.specs.JournaledSpace.{JournaledSpace, space_state}
 use Rattle.space.specs.KeptSpace.{KeptSpace}
 use Rattle.space.specs.SpaceInside.{IsSpace, IsOwed}
 
@@ -15,7 +15,7 @@ journaled k start journal =
 
 -- the space that a journal leaves
 abbrev pub left_by : JournaledSpace → KeptSpace
-left_by v = record { sizes = v.sizes; online = v.online; state = state_of v }
+left_by v = record { sizes = v.sizes; online = v.online; state = space_state v }
 
 -- What is kept is a space, and what the journal leaves, and there is room for the actions that may follow without
 -- another lease or isolation.

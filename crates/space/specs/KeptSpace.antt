@@ -5,8 +5,7 @@ use Rattle.evac_model.specs.declared.space.SpaceAction.{SpaceAction}
 use Rattle.evac_model.specs.Geometry.{Sizes, IsWithinLimits}
 use Rattle.evac_model.specs.SpaceJournal.{SpaceState, after_action}
 use Rattle.buddy.specs.FreeFrames.{FreeFrames}
-use Rattle.page_blocks.specs.BlocksInside.{blocks_marked}
-use Rattle.page_blocks.specs.Marks.{Marks}
+use Rattle.page_blocks.specs.Marks.{Marks, blocks_marked}
 use Rattle.space.specs.SpaceInside.{IsSpace, runs_of}
 
 -- the machine, the kind of pages that managed blocks are online for, and the space

@@ -8,7 +8,7 @@ ghost use Rattle.evac_model.specs.declared.space.SpaceAction.{SpaceAction};
 ghost use Rattle.evac_model.specs.Geometry.{Sizes, IsWithinLimits};
 ghost use Rattle.evac_model.specs.FreeRuns.{fits};
 ghost use Rattle.evac_model.specs.SpaceJournal.{SpaceState, Out, Leased, lease_of, after_lease, after_action, space_after, space_at_start, out_for, is_frame_in, IsPossible, IsPossibleJournal};
-ghost use Rattle.space.specs.JournaledSpace.{JournaledSpace, state_of, IsLeasableFor, AreStartFrames};
+ghost use Rattle.space.specs.JournaledSpace.{JournaledSpace, space_state, IsLeasableFor, AreStartFrames};
 ghost use Rattle.space.specs.SpaceInside.{IsSpace};
 
 /// What always holds of a space holds behind a lease, too.
@@ -18,12 +18,12 @@ pub fn leases_keep_spaces()
 
 /// A leased frame was free for the page.
 pub fn leased_frames_are_free()
-    ensures { (v : JournaledSpace) (who : ℕ) (kind : Kind) (l : Leased) → IsWithinLimits v.sizes → IsSpace v.sizes v.online (state_of v) → lease_of v.sizes v.online (state_of v) who kind ≡ Some l → IsLeasableFor v kind l.frame }
+    ensures { (v : JournaledSpace) (who : ℕ) (kind : Kind) (l : Leased) → IsWithinLimits v.sizes → IsSpace v.sizes v.online (space_state v) → lease_of v.sizes v.online (space_state v) who kind ≡ Some l → IsLeasableFor v kind l.frame }
 {}
 
 /// A lease is refused exactly where no frame is free for the page.
 pub fn refused_leases_have_no_frame()
-    ensures { (v : JournaledSpace) (who : ℕ) (kind : Kind) → IsWithinLimits v.sizes → IsSpace v.sizes v.online (state_of v) → (lease_of v.sizes v.online (state_of v) who kind ≡ None) ↔ ((frame : ℕ) → ¬ IsLeasableFor v kind frame) }
+    ensures { (v : JournaledSpace) (who : ℕ) (kind : Kind) → IsWithinLimits v.sizes → IsSpace v.sizes v.online (space_state v) → (lease_of v.sizes v.online (space_state v) who kind ≡ None) ↔ ((frame : ℕ) → ¬ IsLeasableFor v kind frame) }
 {}
 
 /// What always holds of a space holds at its opening.

@@ -18,6 +18,3 @@ pub use laws::{
     refused_leases_have_no_frame, spaces_stay_spaces,
 };
 pub use space::Space;
-
-#[cfg(test)]
-mod tests;

@@ -55,7 +55,7 @@ impl Space {
     ghost use Rattle.evac_model.specs.declared.space.IsolateFault.{IsolateFault};
     ghost use Rattle.evac_model.specs.declared.space.LeaseFault.{LeaseFault};
     ghost use Rattle.page_blocks.specs.Marks.{page_and_kind, is_unmovable};
-    ghost use Rattle.space.specs.JournaledSpace.{state_of, with_action, IsLeasableFor, AreStartFrames};
+    ghost use Rattle.space.specs.JournaledSpace.{space_state, with_action, IsLeasableFor, AreStartFrames};
     ghost use Rattle.space.specs.SpaceInside.{IsSpace};
     ghost use Rattle.space.specs.Refusals.{frames_out_of, IsFirstOf, emptiness};
 
@@ -86,7 +86,7 @@ impl Space {
     pub fn geometry(&self) -> Geometry
         ensures sizes { result ≡ self.now.sizes }
         ensures within { IsWithinLimits self.now.sizes }
-        ensures space { IsSpace self.now.sizes self.now.online (state_of self.now) }
+        ensures space { IsSpace self.now.sizes self.now.online (space_state self.now) }
     {
         self.kept.geometry()
     }
@@ -101,21 +101,21 @@ impl Space {
 
     /// The page and the kind that a frame is out for, if it is out. A number that is no frame's is not.
     pub fn out_at(&self, frame: FrameNo) -> Option<(PageNo, Kind)>
-        ensures { result ≡ page_and_kind (out_for (state_of self.now) frame.0) }
+        ensures { result ≡ page_and_kind (out_for (space_state self.now) frame.0) }
     {
         self.kept.out_at(frame)
     }
 
     /// Whether a block is isolated. A block that isn't a managed one is not.
     pub fn is_isolated(&self, b: BlockNo) -> bool
-        ensures { result ≡ is_in b.0 (state_of self.now).isolated }
+        ensures { result ≡ is_in b.0 (space_state self.now).isolated }
     {
         self.kept.is_isolated(b)
     }
 
     /// Whether a block is offline. A block that isn't a managed one is not.
     pub fn is_offline(&self, b: BlockNo) -> bool
-        ensures { result ≡ is_in b.0 (state_of self.now).offline }
+        ensures { result ≡ is_in b.0 (space_state self.now).offline }
     {
         self.kept.is_offline(b)
     }
@@ -127,7 +127,7 @@ impl Space {
         requires caller { who ≤ 16 }
         requires page { page.0 < self.old.sizes.pages }
         ensures leased { IfOk result (λ frame. self.new ≡ with_action (SpaceAction.Lease who frame page kind) self.old) }
-        ensures possible { IfOk result (λ frame. IsPossible self.old.sizes self.old.online (state_of self.old) (SpaceAction.Lease who frame page kind)) }
+        ensures possible { IfOk result (λ frame. IsPossible self.old.sizes self.old.online (space_state self.old) (SpaceAction.Lease who frame page kind)) }
         ensures free { IfOk result (λ frame. IsLeasableFor self.old kind frame.0) }
 
         ensures at { (at : ℕ) → result ≡ Err (LeaseFault.NoFrame at) → at ≡ length self.old.journal }
@@ -159,9 +159,9 @@ impl Space {
     /// put first is free again. It takes no memory.
     pub fn give_back(&mut self, who: u32, frame: FrameNo)
         requires caller { who ≤ 16 }
-        requires out { out_for (state_of self.old) frame.0 ≢ None }
+        requires out { out_for (space_state self.old) frame.0 ≢ None }
         ensures returned { self.new ≡ with_action (SpaceAction.Return who frame) self.old }
-        ensures possible { IsPossible self.old.sizes self.old.online (state_of self.old) (SpaceAction.Return who frame) }
+        ensures possible { IsPossible self.old.sizes self.old.online (space_state self.old) (SpaceAction.Return who frame) }
     {
         self.kept.give_back(who, frame);
         self.owed -= 1;
@@ -174,11 +174,11 @@ impl Space {
     /// is no memory.
     pub fn isolate(&mut self, b: BlockNo) -> Result<(), IsolateFault>
         requires managed { b.0 < self.old.sizes.managed }
-        requires there { is_in b.0 (state_of self.old).isolated ≡ false }
+        requires there { is_in b.0 (space_state self.old).isolated ≡ false }
         ensures ok { OnOk result (self.new ≡ with_action (SpaceAction.Isolate b) self.old) }
-        ensures possible { OnOk result (IsPossible self.old.sizes self.old.online (state_of self.old) (SpaceAction.Isolate b)) }
+        ensures possible { OnOk result (IsPossible self.old.sizes self.old.online (space_state self.old) (SpaceAction.Isolate b)) }
 
-        ensures unmovable { IfErr result (IsFirstOf (filter is_unmovable (frames_out_of self.old.sizes (state_of self.old) b.0))) }
+        ensures unmovable { IfErr result (IsFirstOf (filter is_unmovable (frames_out_of self.old.sizes (space_state self.old) b.0))) }
         ensures err { OnErr result (self.new ≡ self.old) }
     {
         if self.journal.reserve(self.owed + 3).is_err() {
@@ -196,10 +196,10 @@ impl Space {
     /// Takes the isolation of a block back, after Linux's `undo_isolate_page_range`: its frames that
     /// aren't out are free again, those given back since among them. It takes no memory.
     pub fn undo(&mut self, b: BlockNo)
-        requires isolated { is_in b.0 (state_of self.old).isolated ≡ true }
-        requires there { is_in b.0 (state_of self.old).offline ≡ false }
+        requires isolated { is_in b.0 (space_state self.old).isolated ≡ true }
+        requires there { is_in b.0 (space_state self.old).offline ≡ false }
         ensures undone { self.new ≡ with_action (SpaceAction.Undo b) self.old }
-        ensures possible { IsPossible self.old.sizes self.old.online (state_of self.old) (SpaceAction.Undo b) }
+        ensures possible { IsPossible self.old.sizes self.old.online (space_state self.old) (SpaceAction.Undo b) }
     {
         self.kept.undo(b);
         self.owed -= 2;
@@ -209,11 +209,11 @@ impl Space {
     /// Takes an isolated block away, after Linux's `offline_pages`. It fails at the first frame of the
     /// block that is out, and then changes nothing. It takes no memory.
     pub fn offline(&mut self, b: BlockNo) -> Result<(), NotEmpty>
-        requires isolated { is_in b.0 (state_of self.old).isolated ≡ true }
-        requires there { is_in b.0 (state_of self.old).offline ≡ false }
-        ensures empty { result ≡ emptiness (frames_out_of self.old.sizes (state_of self.old) b.0) }
+        requires isolated { is_in b.0 (space_state self.old).isolated ≡ true }
+        requires there { is_in b.0 (space_state self.old).offline ≡ false }
+        ensures empty { result ≡ emptiness (frames_out_of self.old.sizes (space_state self.old) b.0) }
         ensures ok { OnOk result (self.new ≡ with_action (SpaceAction.Offline b) self.old) }
-        ensures possible { OnOk result (IsPossible self.old.sizes self.old.online (state_of self.old) (SpaceAction.Offline b)) }
+        ensures possible { OnOk result (IsPossible self.old.sizes self.old.online (space_state self.old) (SpaceAction.Offline b)) }
         ensures err { OnErr result (self.new ≡ self.old) }
     {
         self.kept.take_offline(b)?;
@@ -226,9 +226,9 @@ impl Space {
     /// Gives an offline block back, after Linux's `online_pages`: all its frames are free. It takes no
     /// memory.
     pub fn online(&mut self, b: BlockNo)
-        requires { is_in b.0 (state_of self.old).offline ≡ true }
+        requires { is_in b.0 (space_state self.old).offline ≡ true }
         ensures given { self.new ≡ with_action (SpaceAction.Online b) self.old }
-        ensures possible { IsPossible self.old.sizes self.old.online (state_of self.old) (SpaceAction.Online b) }
+        ensures possible { IsPossible self.old.sizes self.old.online (space_state self.old) (SpaceAction.Online b) }
     {
         self.kept.bring_online(b);
         self.owed -= 1;

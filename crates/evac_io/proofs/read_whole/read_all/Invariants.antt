@@ -7,7 +7,7 @@ invariant-loop-bytes g l = record {
   room : vec_len l.piece ≡ min l.limit 65535 + 1;
   within : vec_len l.bytes ≤ l.limit;
   gives : Gives (g.S.Source.left l.initial.s) (g.S.Source.left l.s) l.bytes.items;
-  counts : g.S.Source.faults l.initial.s ≤ g.S.Source.faults l.s;
+  sure : g.S.Source.faults l.s ≡ g.S.Source.faults l.initial.s;
 }
 
 abbrev pub decreases-loop-bytes : goal.decreases-loop-bytes

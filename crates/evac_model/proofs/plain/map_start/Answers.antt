@@ -2,7 +2,7 @@ use Rattle.std.proofs.Common.{length, ap, sym, ◌∙◌, refl, arith}
 use Rattle.std.proofs.lemmas.List.{drop_all}
 use Rattle.evac_model.specs.State.{start_state}
 use Rattle.evac_model.proofs.Lists.{all_weaker}
-use Rattle.evac_model.proofs.Slots.{state_of_empty, start_step}
+use Rattle.evac_model.proofs.Slots.{slots_state_empty, start_step}
 use Rattle.evac_model.proofs.plain.map_start.Goals as goal
 
 pub loop-left-init : goal.loop-left-init
@@ -10,7 +10,7 @@ loop-left-init c = record {
   left = omega arith;
   mapped = record {
     each = all_weaker _ _ (λ x h. h.slot) _ c.requires.empty;
-    state = state_of_empty _ _ c.requires.empty ∙ ap (start_state c.args.geometry.now.cells) (sym (drop_all (length c.args.start.now) c.args.start.now (omega arith)));
+    state = slots_state_empty _ _ c.requires.empty ∙ ap (start_state c.args.geometry.now.cells) (sym (drop_all (length c.args.start.now) c.args.start.now (omega arith)));
   };
 }
 

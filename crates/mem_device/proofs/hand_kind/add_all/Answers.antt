@@ -1,8 +1,8 @@
-use Rattle.std.proofs.Common.{◌≡◌, ℕ, ◌+◌, ◌||◌, ◌&&◌, Bool, List, nat_lt, true, false, sym, ap, subst, ◌∙◌, arith}
+use Rattle.std.proofs.Common.{◌≡◌, ℕ, ◌||◌, ◌&&◌, nat_lt, true, sym, ap, subst, ◌∙◌, arith}
 use Rattle.evac_model.specs.Geometry.{Sizes}
-use Rattle.evac_model.specs.Numbers.{is_in, is_between, IsRisingBelow}
-use Rattle.mem_device.proofs.Answers.{numbers_rising}
-use Rattle.mem_device.proofs.HandParts.{added_more, added_same, added_all, is_in-with}
+use Rattle.evac_model.specs.Numbers.{is_in, IsRisingBelow}
+use Rattle.evac_model.proofs.Unions.{rising-with_range, is_in-with_range}
+use Rattle.mem_device.proofs.HandParts.{added_more, added_same, added_all}
 use Rattle.mem_device.proofs.hand_kind.add_all.Goals as goal
 use Rattle.mem_device.proofs.hand_kind.add_all.Goals.{then-plugged, else-plugged}
 
@@ -19,8 +19,8 @@ loop-b-preserved c =
           let there : is_in b more ≡ true = sym c.plugged.ensures ∙ w.if-plugged.true in
           rw w.map-is (record {
             sizes = w.set.ensures.sizes ∙ c.loop-b.invariant.sizes;
-            rising = rw (w.set.ensures.plugged, w.set.ensures.sizes) (numbers_rising (λ k. is_in k before || is_between b (b + 1) k) m);
-            has = λ k. ap (is_in k) w.set.ensures.plugged ∙ is_in-with m before b (omega (arith, c.requires b there, same)) c.loop-b.invariant.rising k ∙ added_more (λ x. is_in x old) (λ x. is_in x more) (λ x. is_in x before) b c.loop-b.invariant.has there k;
+            rising = rw (w.set.ensures.plugged, w.set.ensures.sizes) (rising-with_range b 1 m before c.loop-b.invariant.rising (omega (arith, c.requires b there, same)));
+            has = λ k. ap (is_in k) w.set.ensures.plugged ∙ is_in-with_range b 1 before k ∙ added_more (λ x. is_in x old) (λ x. is_in x more) (λ x. is_in x before) b c.loop-b.invariant.has there k;
           })
       | else-plugged w ↦
           rw w.map-is (record {

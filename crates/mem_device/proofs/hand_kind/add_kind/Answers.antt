@@ -1,10 +1,9 @@
-use Rattle.std.proofs.Common.{◌≡◌, ℕ, ◌<◌, List, true, sym, ap, subst, ◌∙◌, arith}
-use Rattle.std.specs.List.{range_with_len}
+use Rattle.std.proofs.Common.{sym, ap, ◌∙◌}
 use Rattle.evac_model.specs.Numbers.{is_in}
-use Rattle.dma_listeners.specs.BlockLists.{united}
+use Rattle.evac_model.specs.Numbers.{united}
 use Rattle.mem_device.specs.declared.hand_kind.HandKind.{HandKind}
 use Rattle.mem_device.specs.HandInside.{hand_state}
-use Rattle.mem_device.proofs.HandParts.{set_united, united_empty, range_inside}
+use Rattle.mem_device.proofs.HandParts.{united_empty, range_inside}
 use Rattle.mem_device.proofs.hand_kind.add_kind.Goals as goal
 
 pub add_all-requires : goal.add_all-requires
@@ -17,10 +16,7 @@ set-requires c =
 
 pub returns-then-n-gt0-clause-plugged : goal.returns-then-n-gt0-clause-plugged
 returns-then-n-gt0-clause-plugged c =
-    let m = c.args.map.now.sizes.managed in
-    let inside = range_inside c.in-Range.first.0 c.in-Range.n m c.if-n-gt0.true (λ b h. c.requires b (ap (λ (k : HandKind). is_in b (hand_state k).blocks) c.in-Range.is ∙ h)) in
-    c.set.ensures.plugged ∙ set_united m c.args.map.now.plugged c.in-Range.first.0 c.in-Range.n c.geometry.ensures.rising inside
-    ∙ ap (λ (k : HandKind). united c.args.map.now.plugged (hand_state k).blocks) (sym c.in-Range.is)
+    c.set.ensures.plugged ∙ ap (λ (k : HandKind). united c.args.map.now.plugged (hand_state k).blocks) (sym c.in-Range.is)
 
 pub returns-else-n-gt0-clause-plugged : goal.returns-else-n-gt0-clause-plugged
 returns-else-n-gt0-clause-plugged c =

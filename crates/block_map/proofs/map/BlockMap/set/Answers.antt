@@ -15,4 +15,4 @@ pub returns-clause-plugged : goal.returns-clause-plugged
 returns-clause-plugged c =
     let after = c.set_bits-added.new.words in
     ap (λ (ws : List ℕ). numbers_where (has_bit ws) c.self.inside.geometry.managed) (with_items_is c.self.inside.words after (omega (arith, c.set_bits-added.auto.words, c.deref_mut.ensures.len)))
-    ∙ value_with c.self.inside.geometry (has_bit c.self.inside.words.items) c.args.self.now c.self.view_is (has_bit after) c.args.first.0 c.args.n (λ k. c.set_bits-added.ensures.bits k ∙ ap (λ (t : Bool). t || is_between c.args.first.0 (c.args.first.0 + c.args.n) k) (ap (λ (ws : List ℕ). has_bit ws k) c.deref_mut.ensures.value))
+    ∙ value_with c.self.inside.geometry (has_bit c.self.inside.words.items) c.args.self.now c.self.view_is (has_bit after) c.args.first.0 c.args.n c.requires (λ k. c.set_bits-added.ensures.bits k ∙ ap (λ (t : Bool). t || is_between c.args.first.0 (c.args.first.0 + c.args.n) k) (ap (λ (ws : List ℕ). has_bit ws k) c.deref_mut.ensures.value))

@@ -6,10 +6,11 @@ use Rattle.evac_model.specs.Geometry.{frame_count}
 use Rattle.buddy.specs.FreeFrames.{FreeFrames}
 use Rattle.buddy.specs.RunsInside.{flag}
 use Rattle.buddy.proofs.Places.{frames_split}
-use Rattle.buddy.proofs.FrameValues.{some_frames, are_apart}
+use Rattle.buddy.proofs.FrameValues.{are_apart}
 use Rattle.buddy.proofs.Setting.{put_aside_now}
 use Rattle.buddy.proofs.runs.Runs.is_put_aside.Goals as goal
 use Rattle.buddy.proofs.runs.Runs.is_put_aside.Goals.{After-block}
+use Rattle.evac_model.proofs.Bounds.{block_some}
 
 base : (c : After-block) → c.boot_frames-boot_frames.result ≡ c.self.inside.geometry.boot * c.self.inside.geometry.block
 base c = c.boot_frames-boot_frames.ensures.frames ∙ sym (ap (λ (v : FreeFrames). v.sizes.boot * v.sizes.block) c.self.view_is)
@@ -17,7 +18,7 @@ base c = c.boot_frames-boot_frames.ensures.frames ∙ sym (ap (λ (v : FreeFrame
 -- the block has a flag
 within : (c : After-block) → (c.args.frame - c.boot_frames-boot_frames.result) / c.block.result < length c.self.inside.withdrawn.items
 within c =
-    let some = some_frames c.self.inside.geometry c.self.invariant.within in
+    let some = block_some c.self.inside.geometry c.self.invariant.within in
     let inside : c.args.frame < frame_count c.self.inside.geometry = subst (λ (v : FreeFrames). c.args.frame < frame_count v.sizes) (sym c.self.view_is) c.requires in
     let below = div_below (c.args.frame - c.boot_frames-boot_frames.result) c.self.inside.geometry.block c.self.inside.geometry.managed some (omega (arith, inside, frames_split c.self.inside.geometry, base c, c.if-boot_frames-frame.true)) in
     omega (arith, ap (λ (n : ℕ). (c.args.frame - c.boot_frames-boot_frames.result) / n) c.block.ensures.size, below, c.self.invariant.withdrawn_length)

@@ -18,6 +18,7 @@ use Rattle.buddy.proofs.Choice.{lowest_chosen}
 use Rattle.buddy.proofs.FreeRunLaws.{no_choice}
 use Rattle.buddy.proofs.runs.Runs.take.Goals as goal
 use Rattle.buddy.proofs.runs.Runs.take.Goals.{After-choose, After-set_run}
+use Rattle.buddy.proofs.FrameValues.{are_apart}
 
 -- the managed blocks take a kind just if their first frame's block does
 fits_takes : (s : Sizes) (online kind : Kind) → fits s online kind (s.boot * s.block) ≡ (is_movable kind || not (is_movable online))
@@ -108,7 +109,7 @@ pub returns-clause-taken : goal.returns-clause-taken
 returns-clause-taken c =
     let e = sym c.in_ok-first.was ∙ chosen (goal.at.returns-clause-taken c).After-choose in
     set_to (goal.at.returns-clause-taken c).After-set_run
-    ∙ taken_value c.args.order c.in_ok-first.first c.args.self.now ∙ ap (λ (o : Option ℕ). after_take c.args.order o c.args.self.now) e
+    ∙ taken_value c.args.order c.in_ok-first.first c.args.self.now (are_apart c.self.inside.geometry c.self.inside.online c.self.inside.boot c.self.inside.managed c.self.inside.aside.items c.self.inside.withdrawn.items c.args.self.now c.self.invariant c.self.view_is).free ∙ ap (λ (o : Option ℕ). after_take c.args.order o c.args.self.now) e
   where
     set_to : (c : After-set_run) → c.set_run.new.self ≡ set_frames c.in_ok-first.first (2 ^ c.args.order) false c.args.self.now
     set_to c = c.set_run.ensures

@@ -1,6 +1,6 @@
-use Rattle.std.proofs.Common.{◌≡◌, ℕ, ap, ◌∙◌}
+use Rattle.std.proofs.Common.{◌≡◌, ℕ, ap, subst, ◌∙◌}
 use Rattle.evac_model.specs.Geometry.{Sizes}
-use Rattle.evac_model.specs.Numbers.{with_range, without_range}
+use Rattle.evac_model.specs.Numbers.{without_range, IsRisingBelow}
 use Rattle.mem_device.proofs.Answers.{only_range}
 use Rattle.mem_device.proofs.block_hand.BlockHand.new.Goals as goal
 
@@ -8,9 +8,9 @@ pub returns-clause-blocks : goal.returns-clause-blocks
 returns-clause-blocks c =
     let m = c.args.g.managed in
     let before = c.in_ok-map.map.plugged in
-    let sizes = ap (λ (s : Sizes). s.managed) c.in_ok-map.ensures.sizes in
-    let sizes_after = ap (λ (s : Sizes). s.managed) c.clear.ensures.sizes ∙ sizes in
-    let mid = c.clear.new.self.plugged in
-    only_range c.args.first.0 c.args.n m before mid _ c.requires
-    (c.clear.ensures.plugged ∙ ap (λ (k : ℕ). without_range 0 k c.in_ok-map.map.sizes.managed before) c.managed.ensures.size ∙ ap (λ (k : ℕ). without_range 0 m k before) sizes)
-    (c.set.ensures.plugged ∙ ap (λ (k : ℕ). with_range c.args.first.0 c.args.n k mid) sizes_after)
+    let sizes : c.in_ok-map.map.sizes.managed ≡ m = ap (λ (s : Sizes). s.managed) c.in_ok-map.ensures.sizes in
+    let whole : c.managed-managed.result ≡ m = c.managed-managed.ensures.size ∙ ap (λ (s : Sizes). s.managed) c.geometry.ensures.sizes ∙ sizes in
+    only_range c.args.first.0 c.args.n m before c.clear.new.self.plugged _ c.requires
+    (subst (λ (k : ℕ). IsRisingBelow k before) sizes c.geometry.ensures.rising)
+    (c.clear.ensures.plugged ∙ ap (λ (k : ℕ). without_range 0 k before) whole)
+    c.set.ensures.plugged

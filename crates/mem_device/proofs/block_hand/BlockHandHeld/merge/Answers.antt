@@ -1,11 +1,12 @@
 use Rattle.std.proofs.Common.{◌≡◌, ℕ, ◌+◌, ◌<◌, List, true, sym, ap, subst, ◌∙◌, arith}
 use Rattle.std.specs.List.{range_with_len}
 use Rattle.evac_model.specs.Numbers.{is_in, IsRisingBelow}
-use Rattle.dma_listeners.specs.BlockLists.{united}
+use Rattle.evac_model.specs.Numbers.{united}
 use Rattle.mem_device.specs.declared.hand_kind.HandKind.{HandKind}
 use Rattle.mem_device.specs.HandState.{HandState}
 use Rattle.mem_device.specs.HandInside.{hand_state}
-use Rattle.mem_device.proofs.HandParts.{range_rising, united_nothing}
+use Rattle.evac_model.proofs.Unions.{range_rising}
+use Rattle.mem_device.proofs.HandParts.{united_nothing}
 use Rattle.mem_device.proofs.block_hand.BlockHandHeld.merge.Goals as goal
 use Rattle.mem_device.proofs.block_hand.BlockHandHeld.merge.Goals.{in-Set, in-Range+in-Set-1, in-Range+in-Range-1}
 

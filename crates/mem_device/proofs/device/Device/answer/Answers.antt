@@ -1,4 +1,4 @@
-use Rattle.std.proofs.Common.{sym, ap, ◌∙◌}
+use Rattle.std.proofs.Common.{ap, ◌∙◌}
 use Rattle.evac_model.specs.DeviceAnswer.{DeviceState, request_in}
 use Rattle.evac_model.specs.DeviceAnswer.{unplugged_blocks}
 use Rattle.mem_device.specs.Managed.{state_in}

@@ -1,4 +1,4 @@
-use Rattle.std.proofs.Common.{ℕ, List, sym, ap, ◌∙◌, refl, arith}
+use Rattle.std.proofs.Common.{sym, ap, ◌∙◌, refl}
 use Rattle.evac_model.specs.DeviceAnswer.{device_after, device_at_start}
 use Rattle.mem_device.proofs.Hands.{unplugged_start}
 use Rattle.mem_device.proofs.Journals.{started}

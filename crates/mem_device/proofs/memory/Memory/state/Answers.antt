@@ -1,4 +1,4 @@
-use Rattle.std.proofs.Common.{sym, ap, ◌∙◌, is_some}
+use Rattle.std.proofs.Common.{sym}
 use Rattle.mem_device.specs.Managed.{state_in}
 use Rattle.mem_device.proofs.Answers.{state_good}
 use Rattle.mem_device.proofs.memory.Memory.state.Goals as goal

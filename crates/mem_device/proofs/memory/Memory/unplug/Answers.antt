@@ -1,10 +1,10 @@
-use Rattle.std.proofs.Common.{◌≡◌, ℕ, List, ◌&&◌, not, ◌+◌, true, sym, ap, ◌∙◌, arith}
+use Rattle.std.proofs.Common.{◌≡◌, ℕ, sym, ap, ◌∙◌, arith}
 use Rattle.std.specs.List.{range_with_len}
-use Rattle.evac_model.specs.Numbers.{is_in, is_between, without_range}
+use Rattle.evac_model.specs.Numbers.{is_in, without_range}
 use Rattle.mem_device.specs.Managed.{state_in}
-use Rattle.mem_device.proofs.Blocks.{range_past}
+use Rattle.evac_model.proofs.Unions.{range_past, rising-without_range}
 use Rattle.mem_device.proofs.Hands.{below_room, plugged_apart}
-use Rattle.mem_device.proofs.Answers.{named_unplug, range_plugged, taken, managed_after, numbers_rising}
+use Rattle.mem_device.proofs.Answers.{named_unplug, range_plugged, taken, managed_after}
 use Rattle.mem_device.proofs.memory.Memory.unplug.Goals as goal
 
 pub merge-requires-clause-below : goal.merge-requires-clause-below
@@ -32,8 +32,8 @@ returns-else-is_err-clause-managed g c =
     let n = c.args.count in
     let held : g.H.Held.blocks c.args.held ≡ range_with_len first n =
     c.requires.held ∙ named_unplug m.sizes (state_in c.args.self.now) c.args.addr n c.in-Ok.ensures.cause ∙ ap (λ (f : ℕ). range_with_len f n) (sym c.in-Ok.ensures.first) in
-    managed_after g.H.Held.blocks g.H.Held.room _ m.sizes (without_range first n m.sizes.managed m.plugged)
+    managed_after g.H.Held.blocks g.H.Held.room _ m.sizes (without_range first n m.plugged)
     c.requires.managed.within c.clear.ensures.sizes c.clear.ensures.plugged
-    (numbers_rising (λ b. is_in b m.plugged && not (is_between first (first + n) b)) m.sizes.managed)
+    (rising-without_range first n m.sizes.managed m.plugged c.requires.managed.rising)
     (taken m.sizes m.plugged _ _ _ _ first n c.in-Ok.ensures.inside c.requires.managed.unplugged held c.merge.ensures.takes c.part-back.ensures.keeps)
     (omega (arith, c.requires.managed.roomy, c.merge.ensures.room, c.part-back.ensures.room))

@@ -1,9 +1,8 @@
-use Rattle.std.proofs.Common.{◌≡◌, ℕ, List, [], sym, ap, ◌∙◌, refl, arith}
+use Rattle.std.proofs.Common.{ℕ, List, [], sym, ap, ◌∙◌, refl, arith}
 use Rattle.evac_model.specs.Geometry.{Sizes}
 use Rattle.evac_model.specs.Numbers.{is_in}
-use Rattle.evac_model.specs.DeviceAnswer.{DeviceState}
 use Rattle.mem_device.specs.Managed.{state_in}
-use Rattle.mem_device.proofs.Blocks.{rising_past}
+use Rattle.evac_model.proofs.Unions.{rising_past}
 use Rattle.mem_device.proofs.Hands.{below_room, plugged_apart}
 use Rattle.mem_device.proofs.Answers.{no_bytes, answer_none, region_cleared, taken_all, managed_after, none_rising}
 use Rattle.mem_device.proofs.memory.Memory.unplug_all.Goals as goal

@@ -3,8 +3,9 @@ use Rattle.std.proofs.lemmas.Bool.{lt-leb}
 use Rattle.std.proofs.lemmas.List.{get_or_default}
 use Rattle.evac_model.specs.Geometry.{frame_count}
 use Rattle.page_blocks.specs.Marks.{Marks}
-use Rattle.page_blocks.proofs.BlockMarks.{block_some, block_below, frame_isolated, boot_frame_isolated}
+use Rattle.page_blocks.proofs.BlockMarks.{block_below, frame_isolated, boot_frame_isolated}
 use Rattle.page_blocks.proofs.blocks.Blocks.is_isolated_frame.Goals as goal
+use Rattle.evac_model.proofs.Bounds.{block_some}
 
 pub returns-then-boot-block : goal.returns-then-boot-block
 returns-then-boot-block c =

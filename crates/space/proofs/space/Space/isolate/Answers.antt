@@ -2,7 +2,7 @@ use Rattle.std.proofs.Common.{◌∙◌, ◌++◌, ◌∷◌, [], List, ap, arit
 use Rattle.evac_model.specs.declared.space.SpaceAction.{SpaceAction}
 use Rattle.evac_model.specs.declared.space.SpaceAction.TheVariants.{Isolate}
 use Rattle.evac_model.specs.SpaceJournal.{IsPossible}
-use Rattle.space.specs.JournaledSpace.{state_of}
+use Rattle.space.specs.JournaledSpace.{space_state}
 use Rattle.space.proofs.Journals.{promised, isolate_owed}
 use Rattle.space.proofs.JournalsKept.{left_opened, left_next}
 use Rattle.space.proofs.Refused.{movable_ok}
@@ -19,7 +19,7 @@ invariant_of-self-2 c =
     let room = vec_capacity c.self.inside.journal in
     let h = left_opened k start journal used owed room v c.self.view_is c.self.invariant in
     let next = c.isolate.new.self in
-    let possible : IsPossible v.sizes v.online (state_of v) (Isolate c.args.b) = (c.requires.managed, c.requires.there, movable_ok v k used owed room c.args.b.0 h c.in_default.ensures.refused) in
+    let possible : IsPossible v.sizes v.online (space_state v) (Isolate c.args.b) = (c.requires.managed, c.requires.there, movable_ok v k used owed room c.args.b.0 h c.in_default.ensures.refused) in
     left_next k next start journal c.push_reserved.new.self.items used owed room _ _ _ (Isolate c.args.b) v c.self.view_is h c.in_default.ensures.ok (c.push_reserved.ensures.items ∙ ap (λ (xs : List SpaceAction). xs ++ Isolate c.args.b ∷ []) c.reserve.ensures.items) possible
     (isolate_owed v k used owed room c.args.b next h h.space c.requires.managed c.requires.there c.in_default.ensures.ok)
     (omega (arith, c.push_reserved.ensures.len, c.push_reserved.ensures.capacity, c.reserve.ensures.len, promised c.reserve.result _ (sym c.is_err.ensures.value ∙ c.if-is_err.false) c.reserve.ensures.ok, h.enough))

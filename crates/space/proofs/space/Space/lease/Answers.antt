@@ -2,7 +2,7 @@ use Rattle.std.proofs.Common.{◌∙◌, ◌++◌, ◌∷◌, [], List, ap, sym,
 use Rattle.evac_model.specs.declared.space.SpaceAction.{SpaceAction}
 use Rattle.evac_model.specs.declared.space.SpaceAction.TheVariants.{Lease}
 use Rattle.evac_model.specs.SpaceJournal.{IsPossible}
-use Rattle.space.specs.JournaledSpace.{state_of}
+use Rattle.space.specs.JournaledSpace.{space_state}
 use Rattle.space.proofs.Journals.{promised}
 use Rattle.space.proofs.JournalsKept.{left_opened, left_next}
 use Rattle.space.proofs.LeasesKept.{lease_owed, chosen_left, free_left, none_left}
@@ -20,7 +20,7 @@ invariant_of-self-in-Some c =
     let h = left_opened k start journal used owed room v c.self.view_is c.self.invariant in
     let next = c.lease.new.self in
     let a : SpaceAction = Lease c.args.who c.in-Some.frame c.args.page c.args.kind in
-    let possible : IsPossible v.sizes v.online (state_of v) a =
+    let possible : IsPossible v.sizes v.online (space_state v) a =
     (c.requires.caller, c.requires.page, chosen_left v k used owed room c.args.who c.args.kind c.in-Some.frame.0 h c.in-Some.ensures.chosen) in
     left_next k next start journal c.push_reserved.new.self.items used owed room _ _ _ a v c.self.view_is h c.in-Some.ensures.leased
     (c.push_reserved.ensures.items ∙ ap (λ (xs : List SpaceAction). xs ++ a ∷ []) c.reserve.ensures.items) possible

@@ -1,4 +1,0 @@
-use Rattle.space.proofs.tests.open_free.Goals as goal
-
-pub open-requires : goal.open-requires
-open-requires c = record { there = tt; fitting = tt }

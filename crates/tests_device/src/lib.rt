@@ -1,0 +1,18 @@
+//! Tests of the device, by requests to a small machine whose answers are worked by hand.
+#![tactic(auto)]
+
+ghost use Rattle.std.specs.Prelude.{◌≡◌, IfOk};
+ghost use Rattle.evac_model.specs.Geometry.{Sizes};
+
+use evac_model::{Geometry, GeometryFault};
+
+/// The sizes of a small machine with 4 managed blocks of 64 bytes from 128 on, so many of which are plugged at the start.
+pub fn small_geometry(plugged: u32) -> Result<Geometry, GeometryFault>
+    ensures { let sizes : Sizes = record { cells = 2; block = 4; boot = 2; managed = 4; plugged = plugged; pages = 8 } in
+        IfOk result (λ g. g ≡ sizes) }
+{
+    Geometry::new(2, 4, 2, 4, plugged, 8)
+}
+
+#[cfg(test)]
+mod requests;

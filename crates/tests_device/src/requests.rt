@@ -1,0 +1,291 @@
+//! What a device answers to requests, one alone or one after another.
+
+ghost use Rattle.std.specs.Prelude.{◌≡◌, ◌+◌, ◌<◌, ◌≤◌, [], None, IfOk, IfSome};
+ghost use Rattle.std.specs.List.{range_with_len};
+ghost use Rattle.evac_model.specs.DeviceAnswer.{request_in, are_plugged};
+ghost use Rattle.mem_device.specs.Answering.{named_blocks};
+ghost use Rattle.mem_device.specs.DeviceView.{device_state};
+
+use crate::small_geometry;
+use block_map::BlockMap;
+use dma_listeners::Refused;
+use evac_model::{NumberList, Request, RequestBytes, STATE_PLUGGED};
+use mem_codec::read_request;
+use mem_device::{
+    BlockHand, BlockNo, Config, Device, DeviceAct, Held, Listener, Response, SizeFault, Slate,
+    range_at,
+};
+use std::alloc::{AllocError, Global};
+use std::process::Abort;
+use std::test::Fail;
+
+// A listener that refuses everything. No device tells it anything yet.
+#[derive(Drop)]
+struct Deaf {
+    refusals: u64,
+}
+
+impl Listener for Deaf {
+    ghost mapped = { λ _. [] };
+
+    ghost refusals = { λ d. d.refusals };
+
+    ghost limit = { λ _. None };
+
+    ghost room = { λ _. 0 };
+
+    fn populate(&mut self, _first: BlockNo, _n: u32) -> Result<(), Refused> {
+        self.refusals = self.refusals.saturating_add(1);
+        Err(Refused)
+    }
+
+    fn discard(&mut self, _first: BlockNo, _n: u32) {}
+}
+
+type SmallDevice = Device<Deaf, Slate, BlockHand>;
+
+// The device of a small machine, whose backing fails at these calls.
+fn small(alloc: Global, plugged: u32, fails: &[u64]) -> Result<SmallDevice, Fail>
+    ensures { IfOk result (λ d. d.journal ≡ []) }
+{
+    let g = small_geometry(plugged)?;
+    let backing = Slate::new(NumberList::from_vec(fails.to_vec(alloc)?));
+    let unplugged = BlockHand::new(alloc, g, BlockNo(g.plugged()), g.managed() - g.plugged())?;
+    let device = Device::open(alloc, g, backing, unplugged)?;
+    Ok(device)
+}
+
+// The bytes of a request.
+fn request(kind: u8, addr: u64, count: u16) -> [u8; 24] {
+    let mut bytes = [0; 24];
+    bytes[0] = kind;
+    bytes[8..16].copy_from_slice(&addr.to_le_bytes());
+    bytes[16..18].copy_from_slice(&count.to_le_bytes());
+    bytes
+}
+
+// Whether all blocks of a range, at least one, are plugged.
+fn are_all_plugged(map: &BlockMap, first: BlockNo, n: u32) -> bool
+    requires { 0 < n }
+    ensures { result ≡ are_plugged map.now.plugged first.0 n }
+{
+    map.state(first, n) == STATE_PLUGGED
+}
+
+// The range of the plugged blocks that a request names; None where they may be no range.
+fn named(device: &SmallDevice, bytes: &[u8]) -> Option<(BlockNo, u32)>
+    ensures blocks { IfSome result (λ r. range_with_len r.0.0 r.1 ≡ named_blocks device.now.sizes (device_state device.now).plugged (request_in bytes.now)) }
+    ensures inside { IfSome result (λ r. r.0.0 + r.1 ≤ device.now.sizes.managed) }
+{
+    let map = device.plugged();
+    let g = map.geometry();
+    match read_request(bytes) {
+        Ok(Request::Unplug { addr, count }) => match range_at(&g, addr, count) {
+            Some(first) => {
+                if are_all_plugged(map, first, count as u32) {
+                    Some((first, count as u32))
+                } else {
+                    Some((BlockNo(0), 0))
+                }
+            }
+            None => Some((BlockNo(0), 0)),
+        },
+        Ok(Request::UnplugAll) => None,
+        Ok(Request::Plug { addr: _, count: _ }) => Some((BlockNo(0), 0)),
+        Ok(Request::State { addr: _, count: _ }) => Some((BlockNo(0), 0)),
+        Err(_) => Some((BlockNo(0), 0)),
+    }
+}
+
+// What the device answers to any request but an UNPLUG_ALL.
+fn ask(alloc: Global, device: &mut SmallDevice, bytes: &[u8]) -> Result<Option<Response>, Fail> {
+    if bytes.len() > 64 {
+        return Ok(None);
+    }
+    let Some((first, n)) = named(device, bytes) else {
+        return Ok(None);
+    };
+    let held = BlockHand::new(alloc, device.plugged().geometry(), first, n)?;
+    let answer = device.answer(bytes, held).map_err(|_| AllocError)?;
+    Ok(Some(answer.response))
+}
+
+const ACK: Response = Response::Ack { state: 0 };
+
+const UNPLUGGED: Response = Response::Ack { state: 1 };
+
+const MIXED: Response = Response::Ack { state: 2 };
+
+#[test]
+fn each_request_from_the_start(rt: HostRuntime) -> Result<(), Fail> {
+    let cases = [
+        (0, 320, 1, Response::Nack),
+        (0, 128, 1, Response::Nack),
+        (0, 129, 1, Response::Error),
+        (0, 128, 0, Response::Error),
+        (1, 128, 1, ACK),
+        (1, 192, 2, ACK),
+        (1, 256, 2, Response::Error),
+        (1, 320, 1, Response::Error),
+        (1, 160, 1, Response::Error),
+        (1, 128, 0, Response::Error),
+        (3, 320, 2, Response::Error),
+        (3, 128, 4, MIXED),
+        (3, 128, 3, ACK),
+        (3, 320, 1, UNPLUGGED),
+        (3, 64, 1, Response::Error),
+        (3, 384, 1, Response::Error),
+        (3, 18_446_744_073_709_551_552, 1, Response::Error),
+        (3, 128, 65_535, Response::Error),
+        (4, 128, 1, Response::Error),
+        (255, 128, 1, Response::Error),
+    ];
+    for (kind, addr, count, want) in cases {
+        let mut device = small(rt.alloc(), 3, &[])?;
+        let got = ask(rt.alloc(), &mut device, &request(kind, addr, count))?;
+        assert_eq!(rt; got, Some(want), "{kind} {addr} {count}");
+    }
+    Ok(())
+}
+
+// A STATE of 4 blocks from 128 on, whose padding is set.
+const PADDED: [u8; 24] = [
+    3, 0, 255, 255, 255, 255, 255, 255, 128, 0, 0, 0, 0, 0, 0, 0, 4, 0, 255, 255, 255, 255, 255,
+    255,
+];
+
+/// The device answers that these bytes are no request.
+fn is_error(
+    rt: &impl Abort,
+    alloc: Global,
+    device: &mut SmallDevice,
+    bytes: &[u8],
+) -> Result<(), Fail> {
+    let got = ask(alloc, device, bytes)?;
+    assert_eq!(rt; got, Some(Response::Error));
+    Ok(())
+}
+
+#[test]
+fn other_bytes(rt: HostRuntime) -> Result<(), Fail> {
+    let mut device = small(rt.alloc(), 3, &[])?;
+    is_error(&rt, rt.alloc(), &mut device, &[])?;
+    is_error(&rt, rt.alloc(), &mut device, &[0])?;
+    is_error(&rt, rt.alloc(), &mut device, &[0; 23])?;
+    is_error(&rt, rt.alloc(), &mut device, &[0; 25])?;
+    is_error(&rt, rt.alloc(), &mut device, &[0; 64])?;
+    assert_eq!(rt; ask(rt.alloc(), &mut device, &PADDED)?, Some(MIXED));
+    assert_eq!(rt; device.journal().len(), 6);
+    Ok(())
+}
+
+#[test]
+fn one_request_after_another(rt: HostRuntime) -> Result<(), Fail> {
+    let mut device = small(rt.alloc(), 3, &[])?;
+    assert_eq!(rt; device.set_requested(100), Err(SizeFault::BadSize));
+    assert_eq!(rt; device.set_requested(320), Err(SizeFault::BadSize));
+    assert_eq!(rt; device.set_requested(256), Ok(()));
+    let cases = [
+        (0, 128, 1, Response::Error),
+        (0, 320, 1, ACK),
+        (0, 320, 1, Response::Nack),
+        (3, 128, 4, ACK),
+        (1, 256, 2, ACK),
+        (1, 256, 1, Response::Error),
+        (3, 128, 4, MIXED),
+        (0, 192, 2, Response::Error),
+        (0, 256, 2, ACK),
+        (3, 128, 4, ACK),
+    ];
+    for (kind, addr, count, want) in cases {
+        let got = ask(rt.alloc(), &mut device, &request(kind, addr, count))?;
+        assert_eq!(rt; got, Some(want), "{kind} {addr} {count}");
+    }
+    assert_eq!(rt; device.migrating(), false);
+    assert_eq!(rt; device.plugged().plugged_size(), 256);
+    assert_eq!(rt; device.journal().len(), 11);
+    let bytes = RequestBytes::from_slice(&request(0, 320, 1));
+    let Some(action) = device.journal().get(2) else {
+        panic!(rt; "no third action");
+    };
+    let act = DeviceAct::Request {
+        bytes,
+        response: ACK,
+    };
+    assert_eq!(rt; action.act, act);
+    assert!(rt; action.notices.is_empty());
+    let mut hand = device.close();
+    let _ = hand.part(BlockNo(0), 0);
+    Ok(())
+}
+
+#[test]
+fn a_backing_that_fails(rt: HostRuntime) -> Result<(), Fail> {
+    let mut device = small(rt.alloc(), 3, &[2])?;
+    let cases = [
+        (1, 320, 1, Response::Error),
+        (1, 128, 1, ACK),
+        (0, 128, 0, Response::Error),
+        (1, 192, 2, Response::Busy),
+        (3, 192, 2, ACK),
+        (1, 192, 2, ACK),
+        (3, 128, 4, UNPLUGGED),
+    ];
+    for (kind, addr, count, want) in cases {
+        let got = ask(rt.alloc(), &mut device, &request(kind, addr, count))?;
+        assert_eq!(rt; got, Some(want), "{kind} {addr} {count}");
+    }
+    Ok(())
+}
+
+const UNPLUG_ALL: [u8; 24] = [
+    2, 0, 0, 0, 0, 0, 0, 0, 0, 0, 0, 0, 0, 0, 0, 0, 0, 0, 0, 0, 0, 0, 0, 0,
+];
+
+// What the device answers to an UNPLUG_ALL at the start.
+fn ask_all(alloc: Global, device: &mut SmallDevice) -> Result<Response, Fail>
+    requires { device.old.journal ≡ [] }
+{
+    let g = device.plugged().geometry();
+    let held = BlockHand::new(alloc, g, BlockNo(0), g.plugged())?;
+    let answer = device.answer(&UNPLUG_ALL, held).map_err(|_| AllocError)?;
+    Ok(answer.response)
+}
+
+#[test]
+fn all_blocks(rt: HostRuntime) -> Result<(), Fail> {
+    let cases = [
+        (3, 9, ACK, 0),
+        (3, 1, Response::Busy, 192),
+        (0, 1, ACK, 0),
+        (4, 2, ACK, 0),
+    ];
+    for (plugged, fails, want, left) in cases {
+        let mut device = small(rt.alloc(), plugged, &[fails])?;
+        assert_eq!(rt;
+            ask_all(rt.alloc(), &mut device)?,
+            want,
+            "{plugged} {fails}"
+        );
+        assert_eq!(rt; device.plugged().plugged_size(), left, "{plugged} {fails}");
+    }
+    Ok(())
+}
+
+#[test]
+fn configuration(rt: HostRuntime) -> Result<(), Fail> {
+    let device = small(rt.alloc(), 4, &[])?;
+    assert_eq!(rt;
+        device.config(),
+        Config {
+            block_size: 64,
+            node_id: 0,
+            addr: 128,
+            region_size: 256,
+            usable_region_size: 256,
+            plugged_size: 256,
+            requested_size: 256,
+        }
+    );
+    Ok(())
+}
