@@ -1,0 +1,5 @@
+pub mod Frames
+pub mod Rounds
+pub mod Kept
+pub mod Steps
+pub mod Ends
