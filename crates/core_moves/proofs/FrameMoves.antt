@@ -27,9 +27,11 @@ use Rattle.core_state.proofs.Holding.{for_some}
 use Rattle.core_state.proofs.Frames.{maps_to-one, maps_le, frame_once, owned_in_range}
 use Rattle.core_state.proofs.FrameSteps.{some_and, maps_to-same, hand-set_same, in_hand-some, frames-at_entry}
 use Rattle.core_state.proofs.Pages.{agrees-nothing}
+use Rattle.core_state.proofs.MovePlaces.{moving_is_mapped}
+use Rattle.core_state.proofs.RoomMoves.{for_some_in}
 use Rattle.core_moves.specs.Moved.{FramesFit, views_after_move}
-use Rattle.core_moves.proofs.MoveWords.{moving_is_mapped, maps_to-unmapped, maps_to-other, mapped_bit-moving, frame_of-moving, mapped_bit-remapped, frame_of-remapped, mapped_bit-mapped, frame_of-mapped, mapped_bit-unmapped}
-use Rattle.core_moves.proofs.Moves.{for_some_frame, after_begin, after_remap, after_map, after_unmap, times_in, times_in-other, times_in-given, fits}
+use Rattle.core_moves.proofs.MoveWords.{maps_to-unmapped, maps_to-other, mapped_bit-moving, frame_of-moving, mapped_bit-remapped, frame_of-remapped, mapped_bit-mapped, frame_of-mapped, mapped_bit-unmapped}
+use Rattle.core_moves.proofs.Moves.{after_begin, after_remap, after_map, after_unmap, times_in, times_in-other, times_in-given, fits}
 
 module _ (o : Opening) (words : List ℕ) (views : List View) (i : ℕ) (v : View) (k : Frames o words views) (at : Has views i v) (s : Shaped o words) (t : Turn o words views) (h : Held) (holds : v.held ≡ Some h) where
   mine : (h.page.0 < o.pages) × (entry_word_of words h.page.0 ≡ h.word)
@@ -185,12 +187,12 @@ module _ (k : Keeper) (o : Opening) (words : List ℕ) (views : List View) (seat
       subst (after Moving) (sym p.1) (frames-begin o words views seat v f at s t p.0 p.1 p.2.mapped)
   frames-step (Remap frame) may =
       let p = for_some v.held (λ h. InHand v frame.0 (MayRemap k o h)) may.1 in
-      let x = for_some_frame (hand_frame v frame.0) (MayRemap k o p.0) p.2.1 in
+      let x = for_some_in (hand_frame v frame.0) (MayRemap k o p.0) p.2.1 in
       subst (after (Remap frame)) (sym p.1)
       (frames-remap o words views seat v f at s t p.0 p.1 k (moving_is_mapped (p.0).word _ (g.held seat v p.0 at p.1).shows.flags x.2.moving) may.0 frame.0 x.0 room p.2.0 x.1)
   frames-step (Map frame kind) may =
       let p = for_some v.held (λ h. InHand v frame.0 (λ x. MayMap k o h x kind)) may.1 in
-      let x = for_some_frame (hand_frame v frame.0) (λ x. MayMap k o p.0 x kind) p.2.1 in
+      let x = for_some_in (hand_frame v frame.0) (λ x. MayMap k o p.0 x kind) p.2.1 in
       subst (after (Map frame kind)) (sym p.1) (frames-map o words views seat v f at s t p.0 p.1 frame.0 kind x.0 room may.0 p.2.0 x.1 x.2.unmapped)
   frames-step Unmap may = let p = for_some v.held MayUnmap may.1 in
       subst (after Unmap) (sym p.1) (frames-unmap o words views seat v f at s t p.0 p.1 k p.2.mapped may.0)

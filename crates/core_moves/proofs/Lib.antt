@@ -8,8 +8,9 @@ pub mod TicketMoves
 pub mod BoundMoves
 pub mod NoticedMoves
 pub mod ImageMoves
-pub mod HandFrames
 pub mod HandOvers
+pub mod SeatMoves
 pub mod SoundMoves
 pub mod CoreMoves
-pub mod TestMoves
+pub mod ZeroCells
+pub mod CopiedCells

@@ -1,15 +1,13 @@
 -- What is read of the word of a held page after a step on its mapping.
-use Rattle.std.proofs.Common.{◌≡◌, ℕ, eqb, cond, Bool, true, false, ne_eqb, ◌+◌, ◌*◌, ◌/◌, ◌%◌, ◌<◌, ◌≢◌, ap, ◌∙◌, refl, arith, Some, None}
+use Rattle.std.proofs.Common.{◌≡◌, ℕ, eqb, cond, Bool, true, false, ne_eqb, ◌+◌, ◌*◌, ◌/◌, ◌%◌, ◌<◌, ◌≢◌, ap, ◌∙◌, refl, arith}
 use mathlib.Core.Logic.{dite}
 use native.Mathlib.Decide.{ℕ_discrete}
 use Rattle.evac_model.specs.declared.names.Kind.{Kind}
-use Rattle.evac_model.specs.declared.names.Kind.TheVariants.{Movable, Unmovable}
-use Rattle.evac_model.specs.Page.{Page, kind_of}
+use Rattle.evac_model.specs.Page.{kind_of}
 use Rattle.evac_words.specs.Word.{taken_bit, moving_bit, mapped_bit, unmovable_bit, pins_of, frame_of, bound_of}
 use Rattle.core_state.specs.Words.{kind_in, unmovable_for, moving_word, remapped_word, mapped_word, unmapped_word}
 use Rattle.core_state.specs.Views.{maps_to}
-use Rattle.core_state.specs.Pages.{Flagged}
-use Rattle.core_state.proofs.EntryWords.{Fits, moving_bit-packed, mapped_bit-packed, unmovable_bit-packed, pins_of-packed, frame_of-packed, bound_of-packed}
+use Rattle.core_state.proofs.EntryWords.{unmovable_for-fits, kind_of-unmovable_for, Fits, moving_bit-packed, mapped_bit-packed, unmovable_bit-packed, pins_of-packed, frame_of-packed, bound_of-packed}
 
 -- ---- which frame a word maps
 
@@ -23,11 +21,6 @@ maps_to-other f w ne = dite (ℕ_discrete (mapped_bit w) 1)
       by_bit : (b : Bool) → cond {A = ℕ} b 0 0 ≡ 0
       by_bit true = refl
       by_bit false = refl
-
--- a page whose word has the moving bit is mapped
-pub moving_is_mapped : (w : ℕ) (m : Page) → Flagged w m → moving_bit w ≡ 1 → mapped_bit w ≡ 1
-moving_is_mapped w None f e = absurd (omega arith)
-moving_is_mapped w (Some m) f e = f.0
 
 -- ---- moving
 
@@ -79,14 +72,6 @@ module _ (w f : ℕ) (fits : f < 1048576) where
   bound_of-remapped = bound_of-packed (taken_bit w) 0 (mapped_bit w) (unmovable_bit w) (pins_of w) f (bound_of w) remapped_fits
 
 -- ---- mapped
-
-unmovable_for-fits : (k : Kind) → unmovable_for k < 2
-unmovable_for-fits Movable = omega arith
-unmovable_for-fits Unmovable = omega arith
-
-kind_of-unmovable_for : (k : Kind) → kind_of (eqb (unmovable_for k) 0) ≡ k
-kind_of-unmovable_for Movable = refl
-kind_of-unmovable_for Unmovable = refl
 
 module _ (w f : ℕ) (k : Kind) (fits : f < 1048576) where
   mapped_fits : Fits (taken_bit w) 0 1 (unmovable_for k) 0 f

@@ -47,10 +47,6 @@ after_unmap k v h = record v { held = Some (unmapped v h); hand = set v.hand (fr
 
 -- ---- hands
 
-pub for_some_frame : (m : Option HandFrame) (P : HandFrame → Type 0) → IsSomeAnd m P → (x : HandFrame) × (m ≡ Some x) × P x
-for_some_frame None P p = absurd p
-for_some_frame (Some x) P p = (x, refl, p)
-
 -- how often a frame is in a hand
 abbrev pub times_in : List (Option HandFrame) → ℕ → ℕ
 times_in hand f = bit_of (is_some (get_or hand f None))

@@ -4,7 +4,6 @@ use Rattle.std.specs.List.{slice_get}
 use Rattle.std.proofs.lemmas.Option.{same_Some}
 use mathlib.Core.Logic.{dite}
 use native.Mathlib.Decide.{ℕ_discrete}
-use Rattle.evac_model.specs.declared.entry.Entry.{Entry}
 use Rattle.evac_model.specs.declared.names.PageNo.{PageNo}
 use Rattle.evac_words.specs.Word.{bound_of}
 use Rattle.evac_words.specs.Table.{entry_index}
@@ -18,24 +17,18 @@ use Rattle.core_state.specs.Words.{entry_word_of}
 use Rattle.core_state.specs.Views.{Has, right_to}
 use Rattle.core_state.specs.Parts.{Shaped, Turn, Tickets, Bounds}
 use Rattle.core_state.specs.Pages.{Pages}
-use Rattle.core_state.specs.NoticedWords.{HasEntry, HasHolder, MayHold, NoticedWords}
+use Rattle.core_state.specs.NoticedWords.{HasHolder, MayHold, NoticedWords}
 use Rattle.core_state.specs.Steps.{held_page}
 use Rattle.core_state.specs.MoveSteps.{AllowedMove, word_after_move, view_after_move}
 use Rattle.core_state.specs.Stepped.{words_after_move}
 use Rattle.core_state.proofs.Lists.{set_here, within}
 use Rattle.core_state.proofs.WordsAt.{entry_word-here, entry_word-other, entry_within}
 use Rattle.core_state.proofs.TurnSteps.{right_kept, holds_mine}
-use Rattle.core_state.proofs.NoticedKept.{page_before-kept, has_entry-kept, followed-kept, noticed-kept}
+use Rattle.core_state.proofs.NoticedKept.{page_before-kept, has_entry-same, followed-kept, noticed-kept}
 use Rattle.core_moves.specs.Moved.{views_after_move}
 use Rattle.core_moves.proofs.Changed.{Changed, changed}
 
 module _ (o : Opening) (words : List ℕ) (views : List View) (i : ℕ) (v w : View) (h g : Held) (n : ℕ) (at : Has views i v) (c : Changed v w h g n) where
-  keep : (e : Entry) → HasEntry views e → HasEntry (set views i w) e
-  keep e = has_entry-kept views i v w e at (λ x y q. ap (λ (es : List Entry). slice_get es x) c.entries ∙ q)
-
-  right_same : (page : ℕ) → right_to page w ≡ right_to page v
-  right_same page = right_kept v w page c.mover
-
   -- the seat that steps goes on holding the page
   mine : (page : ℕ) → h.page.0 ≡ page → HasHolder (set views i w) page
   mine page on = record { seat = i; view = w; hold = g; has = set_here views i w (within views i v at); is = c.now; on = ap (λ (p : PageNo). p.0) c.page ∙ on }
@@ -43,7 +36,7 @@ module _ (o : Opening) (words : List ℕ) (views : List View) (i : ℕ) (v w : V
   may_hold : MayHold v h → MayHold w g
   may_hold = ⊎_elim
       (λ d. inl (subst (λ (m : Option ℕ). IsSome m) (sym c.ticket) d))
-      (⊎_elim (λ d. inr (inl (let e = c.left in omega arith))) (λ d. inr (inr (subst (λ (p : PageNo). 0 < right_to p.0 w) (sym c.page) (let e = right_same h.page.0 in omega arith)))))
+      (⊎_elim (λ d. inr (inl (let e = c.left in omega arith))) (λ d. inr (inr (subst (λ (p : PageNo). 0 < right_to p.0 w) (sym c.page) (let e = right_kept v w h.page.0 c.mover in omega arith)))))
 
   bound_kept : Turn o words views → Shaped o words → (page : ℕ) → bound_of (entry_word_of words page) ≤ bound_of (entry_word_of (set words (entry_index h.page.0) n) page)
   bound_kept t s page = dite (ℕ_discrete page h.page.0)
@@ -55,17 +48,17 @@ module _ (o : Opening) (words : List ℕ) (views : List View) (i : ℕ) (v w : V
 
   pub noticed-changed : Turn o words views → Shaped o words → NoticedWords o words views → NoticedWords o (set words (entry_index h.page.0) n) (set views i w)
   unfolding mine
-  noticed-changed t s k = noticed-kept o words views i v k at (entry_index h.page.0) n w (λ e. keep e)
+  noticed-changed t s k = noticed-kept o words views i v k at (entry_index h.page.0) n w (has_entry-same views i v w at c.entries)
       (λ page lt. bound_kept t s page)
       (λ d old. page_before-kept o views i v w d.page.0 (bound_of d.word) at c.entries)
       (λ x is. subst (λ (y : Held). MayHold w y) (same_Some g x (sym c.now ∙ is)) (may_hold (k.may_hold i v h at c.holds)))
       (λ x d is. inl (ap (λ (y : Noticed). slice_get y.by_right x) (sym c.noticed) ∙ is))
       (λ d is. inl (ap (λ (y : Noticed). y.last) (sym c.noticed) ∙ is))
-      (λ d old l. followed-kept o words views i v k at w d (λ e. keep e)
+      (λ d old l. followed-kept o words views i v k at w d (has_entry-same views i v w at c.entries)
       (λ x t is on drawn late. let q = same_Some h x (sym c.holds ∙ is) in
       inr (inl record { holder = mine d.page.0 (ap (λ (y : Held). y.page.0) q ∙ on); ticket = t; drawn = c.ticket ∙ ap (λ (y : Held). y.ticket) q ∙ drawn; late = late }))
       (λ x is on some no. let q = same_Some h x (sym c.holds ∙ is) in
-      inr (inr record { holder = mine d.page.0 (ap (λ (y : Held). y.page.0) q ∙ on); left = (let e = c.left in omega arith); no_right = right_same d.page.0 ∙ no })) l)
+      inr (inr record { holder = mine d.page.0 (ap (λ (y : Held). y.page.0) q ∙ on); left = (let e = c.left in omega arith); no_right = right_kept v w d.page.0 c.mover ∙ no })) l)
 
 pub moves_keep_noticed_words : (k : Keeper) (o : Opening) (words : List ℕ) (views : List View) (seat : ℕ) (v : View) (step : MoveStep) → Has views seat v → Shaped o words → Turn o words views → Tickets o words views → Bounds o words views → Pages o words views → NoticedWords o words views → AllowedMove k o v step
     → NoticedWords o (words_after_move words v step) (views_after_move k views seat v step)

@@ -29,11 +29,13 @@ use Rattle.core_state.proofs.WordsAt.{entry_word-other}
 use Rattle.core_state.proofs.Holding.{for_some, holds_page-same, holds_page-other}
 use Rattle.core_state.proofs.FrameSteps.{length-cells_of_frame}
 use Rattle.core_state.proofs.Pages.{agrees-nothing, with_stores-nothing, length-page_cells-mapped, length-patched, cells-held}
+use Rattle.core_state.proofs.MovePlaces.{moving_is_mapped}
 use Rattle.core_state.proofs.PageSteps.{pages-at_entry}
 use Rattle.core_state.proofs.AllowedCells.{get_or-patched, known_at}
+use Rattle.core_state.proofs.RoomMoves.{for_some_in}
 use Rattle.core_moves.specs.Moved.{FramesFit, views_after_move}
-use Rattle.core_moves.proofs.MoveWords.{moving_is_mapped, moving_bit-moving, mapped_bit-moving, unmovable_bit-moving, pins_of-moving, frame_of-moving, bound_of-moving, moving_word-is, mapped_bit-remapped, unmovable_bit-remapped, pins_of-remapped, frame_of-remapped, bound_of-remapped, mapped_bit-mapped, kind_in-mapped, pins_of-mapped, frame_of-mapped, bound_of-mapped, flags-unmapped, mapped_bit-unmapped, bound_of-unmapped}
-use Rattle.core_moves.proofs.Moves.{for_some_frame, begun, remapped, mapped, unmapped, after_begin, after_remap, after_map, after_unmap, fits, in_range}
+use Rattle.core_moves.proofs.MoveWords.{moving_bit-moving, mapped_bit-moving, unmovable_bit-moving, pins_of-moving, frame_of-moving, bound_of-moving, moving_word-is, mapped_bit-remapped, unmovable_bit-remapped, pins_of-remapped, frame_of-remapped, bound_of-remapped, mapped_bit-mapped, kind_in-mapped, pins_of-mapped, frame_of-mapped, bound_of-mapped, flags-unmapped, mapped_bit-unmapped, bound_of-unmapped}
+use Rattle.core_moves.proofs.Moves.{begun, remapped, mapped, unmapped, after_begin, after_remap, after_map, after_unmap, fits, in_range}
 
 -- ---- the held page after a step
 
@@ -184,7 +186,7 @@ module _ (k : Keeper) (o : Opening) (words : List ℕ) (views : List View) (seat
       (pages-at_held o words views seat v g at t p.0 p.1 _ (after_begin v p.0) (begun v p.0) refl refl refl (begin_shows o words v p.0 _ p.2.mapped (was p.0 p.1)))
   pages-step (Remap frame) may =
       let p = for_some v.held (λ h. InHand v frame.0 (MayRemap k o h)) may.1 in
-      let x = for_some_frame (hand_frame v frame.0) (MayRemap k o p.0) p.2.1 in
+      let x = for_some_in (hand_frame v frame.0) (MayRemap k o p.0) p.2.1 in
       let on = moving_is_mapped (p.0).word _ (was p.0 p.1).shows.flags x.2.moving in
       subst (after (Remap frame)) (sym p.1)
       (pages-at_held o words views seat v g at t p.0 p.1 _ (after_remap k v p.0 frame.0) (remapped p.0 frame.0) refl refl refl
@@ -193,7 +195,7 @@ module _ (k : Keeper) (o : Opening) (words : List ℕ) (views : List View) (seat
       (was p.0 p.1)))
   pages-step (Map frame kind) may =
       let p = for_some v.held (λ h. InHand v frame.0 (λ x. MayMap k o h x kind)) may.1 in
-      let x = for_some_frame (hand_frame v frame.0) (λ x. MayMap k o p.0 x kind) p.2.1 in
+      let x = for_some_in (hand_frame v frame.0) (λ x. MayMap k o p.0 x kind) p.2.1 in
       subst (after (Map frame kind)) (sym p.1)
       (pages-at_held o words views seat v g at t p.0 p.1 _ (after_map v p.0 frame.0 kind) (mapped v p.0 frame.0 kind) refl refl refl
       (map_shows o words v p.0 _ frame.0 kind may.0.cells (fits o v frame.0 x.0 room may.0 x.1)

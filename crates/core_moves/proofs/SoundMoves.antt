@@ -10,6 +10,7 @@ use Rattle.core_state.specs.MoveSteps.{AllowedMove}
 use Rattle.core_state.specs.Stepped.{words_after_move}
 use Rattle.core_state.proofs.WordsAt.{shaped-set}
 use Rattle.core_moves.specs.Moved.{FramesFit, views_after_move}
+use Rattle.core_moves.proofs.SeatMoves.{moves_keep_seats}
 use Rattle.core_moves.proofs.TurnMoves.{moves_keep_turn}
 use Rattle.core_moves.proofs.FrameMoves.{moves_keep_frames}
 use Rattle.core_moves.proofs.TicketMoves.{moves_keep_tickets}
@@ -22,6 +23,7 @@ pub moves_keep_sound : (k : Keeper) (o : Opening) (words : List ℕ) (views : Li
     → Sound o (words_after_move words v step) (views_after_move k views seat v step)
 moves_keep_sound k o words views seat v step at fit s may = record {
   shaped = shaped-set o words _ _ s.shaped;
+  seats = moves_keep_seats k o views seat v step at s.seats may;
   turn = moves_keep_turn k o words views seat v step at s.shaped s.turn may;
   frames = moves_keep_frames k o words views seat v step at fit s.shaped s.turn s.frames s.pages may;
   tickets = moves_keep_tickets k o words views seat v step at s.shaped s.turn s.tickets may;

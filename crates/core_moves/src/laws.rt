@@ -7,6 +7,7 @@ ghost use Rattle.core_state.specs.declared.opening.Opening.{Opening};
 ghost use Rattle.core_state.specs.declared.step.MoveStep.{MoveStep};
 ghost use Rattle.core_state.specs.declared.view.View.{View};
 ghost use Rattle.core_state.specs.Parts.{Shaped, Turn, Tickets, Bounds};
+ghost use Rattle.core_state.specs.Seats.{Seats};
 ghost use Rattle.core_state.specs.Frames.{Frames};
 ghost use Rattle.core_state.specs.Pages.{Pages};
 ghost use Rattle.core_state.specs.NoticedWords.{NoticedWords};
@@ -57,6 +58,12 @@ pub fn moves_keep_noticed_words()
 /// on a mapping that is allowed keeps this.
 pub fn moves_keep_image()
     ensures { (k : Keeper) (o : Opening) (words : List ℕ) (views : List View) (seat : ℕ) (v : View) (step : MoveStep) → Has views seat v → Shaped o words → Turn o words views → Frames o words views → Image o words views → AllowedMove k o v step → Image o (words_after_move words v step) (views_after_move k views seat v step) }
+{}
+
+/// Each view is that of a seat of the machine, with its places, or the one that a joined seat is left with,
+/// and one at most has the journal of the frame space: each step on a mapping that is allowed keeps this.
+pub fn moves_keep_seats()
+    ensures { (k : Keeper) (o : Opening) (views : List View) (seat : ℕ) (v : View) (step : MoveStep) → Has views seat v → Seats o views → AllowedMove k o v step → Seats o (views_after_move k views seat v step) }
 {}
 
 /// Each step on a mapping that is allowed keeps a sound snapshot sound, where each frame has room in an

@@ -1,6 +1,6 @@
 -- How a core is opened is an opening, and so it is sound.
 use Rattle.std.proofs.Common.{◌≡◌, ◌≢◌, ℕ, Bool, cond, eqb, zero, suc, ◌+◌, ◌-◌, ◌<◌, ◌≤◌, ◌^◌, true, false, nat_eq, ◌⊎◌, List, [], ◌∷◌, ◌++◌, length, map, set, take, replicate, sum, get_or, get_or-set_same, get_or-set_other, Option, None, Some, IsSome, refl, sym, ap, subst, ◌∙◌, inl, inr, ⊎_elim, arith, eq-eqb, ne_eqb}
-use Rattle.std.specs.Prelude.{is_some}
+use Rattle.std.specs.Prelude.{is_some, IfSome}
 use Rattle.std.proofs.lemmas.List.{length-replicate, take-replicate, drop-replicate, get_or-replicate, get_or_past, get_or_append_left}
 use Rattle.std.proofs.Math.Seq.{get_or-append_right}
 use Rattle.std.proofs.lemmas.List.Sums.{sum_by-cons, sum_by-append}
@@ -11,6 +11,7 @@ use mathlib.Core.Logic.{dite}
 use native.Mathlib.Decide.{ℕ_discrete, dec_le}
 use Rattle.evac_model.specs.declared.names.Kind.{Kind}
 use Rattle.evac_model.specs.declared.scenario.StartPage.{StartPage}
+use Rattle.evac_model.specs.declared.space.SpaceAction.{SpaceAction}
 use Rattle.evac_model.specs.Geometry.{Sizes, IsWithinLimits, frame_count}
 use Rattle.evac_model.specs.Page.{Page, new_page, zeros, kind_of}
 use Rattle.evac_model.specs.StartPages.{IsStartPage, AreStartPages}
@@ -21,16 +22,17 @@ use Rattle.core_state.specs.declared.opening.Opening.{Opening}
 use Rattle.core_state.specs.declared.scan.Scan.{Scan}
 use Rattle.core_state.specs.declared.view.View.{View}
 use Rattle.core_state.specs.Words.{next_ticket_of, entry_word_of, dirty_word_of, cells_of_frame, unmovable_for, mapped_word}
-use Rattle.core_state.specs.Views.{Has, movers, right_to, times_in_hand, times_in_hands, maps_to, scans}
+use Rattle.core_state.specs.Views.{Has, spent, movers, right_to, times_in_hand, times_in_hands, maps_to, keeps_journal, scans}
 use Rattle.core_state.specs.Parts.{Shaped, all_left}
 use Rattle.core_state.specs.Pages.{page_cells, Flagged, Shows, FreeShows}
 use Rattle.core_state.specs.Frames.{all_entry_words, times_mapped}
-use Rattle.core_state.specs.Image.{copy_of}
+use Rattle.core_state.specs.Copies.{nothing_copied}
+use Rattle.core_state.specs.Image.{copy_at}
 use Rattle.core_state.specs.Opens.{IsNew, Opens}
 use Rattle.core_state.specs.CoreOpens.{start_pages, opening_of, opening_words, frames_there, fresh_frame, empty_places, fresh_places, free_hand, unplugged_hand, new_view, driver_view, owner_view, owner_views, new_scan, scanner_view, keeper_view, keeper_views, opening_views, spare_at_start}
 use Rattle.core_state.specs.Steps.{nothing_known}
 use Rattle.core_state.proofs.Lists.{sum_by_replaced}
-use Rattle.core_state.proofs.EntryWords.{Fits, taken_bit-packed, moving_bit-packed, mapped_bit-packed, unmovable_bit-packed, pins_of-packed, frame_of-packed, bound_of-packed}
+use Rattle.core_state.proofs.EntryWords.{Fits, unmovable_for-fits, kind_of-unmovable_for, taken_bit-packed, moving_bit-packed, mapped_bit-packed, unmovable_bit-packed, pins_of-packed, frame_of-packed, bound_of-packed}
 use Rattle.core_state.proofs.WordsAt.{next_ticket-entry, cells_of_frame-before, entry_word-here, entry_word-other}
 use Rattle.core_state.proofs.Cells.{at_entry, all_entry_words-set}
 use Rattle.core_state.proofs.Frames.{maps_to-one}
@@ -40,12 +42,7 @@ use Rattle.core_state.proofs.Starts.{length-start_pages, length-opening_words, l
 -- ---- the word of a start page
 
 word_fits : (frame : ℕ) (kind : Kind) → frame < 65536 → Fits 0 0 1 (unmovable_for kind) 0 frame
-word_fits frame Kind.Movable low = record { taken_fits = omega arith; moving_fits = omega arith; mapped_fits = omega arith; unmovable_fits = omega arith; pins_fits = omega arith; frame_fits = omega arith }
-word_fits frame Kind.Unmovable low = record { taken_fits = omega arith; moving_fits = omega arith; mapped_fits = omega arith; unmovable_fits = omega arith; pins_fits = omega arith; frame_fits = omega arith }
-
-kind_back : (kind : Kind) → kind_of (eqb (unmovable_for kind) 0) ≡ kind
-kind_back Kind.Movable = refl
-kind_back Kind.Unmovable = refl
+word_fits frame kind low = record { taken_fits = omega arith; moving_fits = omega arith; mapped_fits = omega arith; unmovable_fits = unmovable_for-fits kind; pins_fits = omega arith; frame_fits = omega arith }
 
 -- what an entry word and a page are at the start: both of no page, or both of a start page
 abbrev IsUnmapped : ℕ → Page → Type 0
@@ -221,13 +218,13 @@ module _ (s : Sizes) (w : IsWithinLimits s) where
     no_frame f k (n ∷ ns) = let a = sum_by-cons (λ v. times_in_hand f v) (owner_view s k n) (owner_views s (k + 1) ns) in let b = at_empty (frame_count s) f in let c = no_frame f (k + 1) ns in omega arith
 
     -- a sum over all views
-    sum_views : (g : View → ℕ) → sum_by g (opening_views s start budgets) ≡ g (driver_view s) + (sum_by g (owner_views s 1 budgets) + (g (scanner_view s) + (g (keeper_view s (free_hand s start)) + g (keeper_view s (unplugged_hand s)))))
+    sum_views : (g : View → ℕ) → sum_by g (opening_views s start budgets) ≡ g (driver_view s) + (sum_by g (owner_views s 1 budgets) + (g (scanner_view s) + (g (keeper_view s (Some []) (free_hand s start)) + g (keeper_view s None (unplugged_hand s)))))
     sum_views g =
         let a = sum_by-cons g (driver_view s) (owner_views s 1 budgets ++ scanner_view s ∷ keeper_views s start) in
         let b = sum_by-append g (owner_views s 1 budgets) (scanner_view s ∷ keeper_views s start) in
         let c = sum_by-cons g (scanner_view s) (keeper_views s start) in
-        let d = sum_by-cons g (keeper_view s (free_hand s start)) (keeper_view s (unplugged_hand s) ∷ []) in
-        let e = sum_by-cons g (keeper_view s (unplugged_hand s)) [] in
+        let d = sum_by-cons g (keeper_view s (Some []) (free_hand s start)) (keeper_view s None (unplugged_hand s) ∷ []) in
+        let e = sum_by-cons g (keeper_view s None (unplugged_hand s)) [] in
         omega arith
 
     in_hands : (f : ℕ) → times_in_hands f (opening_views s start budgets) ≡ at_hand f (free_hand s start) + at_hand f (unplugged_hand s)
@@ -273,13 +270,38 @@ module _ (s : Sizes) (w : IsWithinLimits s) where
     one_scanner : sum_by scans (opening_views s start budgets) ≤ 1
     one_scanner = let a = sum_views scans in let b = owners_scan 1 budgets in omega arith
 
+    owners_keep : (k : ℕ) (ns : List ℕ) → sum_by keeps_journal (owner_views s k ns) ≡ 0
+    owners_keep k [] = refl
+    owners_keep k (n ∷ ns) = let a = sum_by-cons keeps_journal (owner_view s k n) (owner_views s (k + 1) ns) in let c = owners_keep (k + 1) ns in omega arith
+
+    one_journal : sum_by keeps_journal (opening_views s start budgets) ≤ 1
+    one_journal = let a = sum_views keeps_journal in let b = owners_keep 1 budgets in omega arith
+
     -- ---- each seat is new
 
-    new_is_new : (caller : Option ℕ) (left : ℕ) (mover : List Bool) (hand : List (Option HandFrame)) (scan : Option Scan) → (0 < left → IsSome caller)
+    -- the image of a seat that is the scanner's, or of one that isn't
+    record IsNewScan (scan : Option Scan) : Type 0 where
+      image : IfSome scan (λ z. length z.image ≡ frame_count s)
+      copies : (z : Scan) (f : ℕ) → scan ≡ Some z → f < frame_count s → copy_at z f ≡ nothing_copied s.cells
+      swept : (z : Scan) → scan ≡ Some z → z.swept ≡ []
+
+    no_scan : IsNewScan None
+    no_scan = record { image = tt; copies = λ z f e lt. absurd (none-some z e); swept = λ z e. absurd (none-some z e) }
+
+    new_scan_is : IsNewScan (Some (new_scan s))
+    new_scan_is = record {
+      image = length-replicate (frame_count s) (nothing_copied s.cells);
+      copies = λ z f e lt. ap (λ (y : Scan). copy_at y f) (sym (same_Some (new_scan s) z e)) ∙ get_or-replicate (frame_count s) f (nothing_copied s.cells) (nothing_copied 0) lt;
+      swept = λ z e. ap (λ (y : Scan). y.swept) (sym (same_Some (new_scan s) z e));
+    }
+
+    new_is_new : (caller : Option ℕ) (left : ℕ) (mover : List Bool) (hand : List (Option HandFrame)) (scan : Option Scan) (journal : Option (List SpaceAction)) → (0 < left → IsSome caller)
+        → length hand ≡ frame_count s
         → ((f : ℕ) (x : HandFrame) → get_or hand f None ≡ Some x → x.stores ≡ replicate s.cells None)
-        → ((z : Scan) (f : ℕ) → scan ≡ Some z → copy_of z f ≡ [])
-        → IsNew (opening_of s start budgets) (new_view s caller left mover hand scan)
-    new_is_new caller left mover hand scan called fresh copies = record {
+        → IsNewScan scan
+        → IsNew (opening_of s start budgets) (record (new_view s caller left mover hand scan) { actions = record spent.actions { journal = journal } })
+    new_is_new caller left mover hand scan journal called long fresh new = record {
+      seated = record { cells = refl; hand = long; image = new.image };
       held = refl;
       entries = refl;
       by_right = refl;
@@ -288,7 +310,8 @@ module _ (s : Sizes) (w : IsWithinLimits s) where
       seen = refl;
       caller = called;
       hand = fresh;
-      scan = copies;
+      copies = new.copies;
+      swept = new.swept;
     }
 
     nothing_fresh : (n f : ℕ) (x : HandFrame) → get_or (empty_places n) f None ≡ Some x → x.stores ≡ replicate s.cells None
@@ -319,34 +342,31 @@ module _ (s : Sizes) (w : IsWithinLimits s) where
     free_fresh [] = both_fresh (fresh_places s.cells (frames_there s)) (empty_places (frame_count s - frames_there s)) (fresh_fresh (frames_there s)) (nothing_fresh (frame_count s - frames_there s))
     free_fresh (p ∷ ps) = less_fresh (free_hand s ps) p.frame.0 (free_fresh ps)
 
-    no_scan : (z : Scan) (f : ℕ) → None ≡ Some z → copy_of z f ≡ []
-    no_scan z f e = absurd (none-some z e)
-
-    new_scan_is : (z : Scan) (f : ℕ) → Some (new_scan s) ≡ Some z → copy_of z f ≡ []
-    new_scan_is z f e = ap (λ (y : Scan). copy_of y f) (sym (same_Some (new_scan s) z e)) ∙ get_or_same (frame_count s) f []
+    all_empty : length (empty_places (frame_count s)) ≡ frame_count s
+    all_empty = length-replicate {A = Option HandFrame} (frame_count s) None
 
     no_left : (caller : Option ℕ) → 0 < 0 → IsSome caller
     no_left caller h = absurd (omega arith)
 
     new_last : (i : ℕ) (v : View) → Has (scanner_view s ∷ keeper_views s start) i v → IsNew (opening_of s start budgets) v
     new_last zero v has = subst (λ (x : View). IsNew (opening_of s start budgets) x) (same_Some (scanner_view s) v has)
-        (new_is_new None 0 [] (empty_places (frame_count s)) (Some (new_scan s)) (no_left None) (nothing_fresh (frame_count s)) new_scan_is)
-    new_last (suc zero) v has = subst (λ (x : View). IsNew (opening_of s start budgets) x) (same_Some (keeper_view s (free_hand s start)) v has)
-        (new_is_new None 0 [] (free_hand s start) None (no_left None) (free_fresh start) no_scan)
-    new_last (suc (suc zero)) v has = subst (λ (x : View). IsNew (opening_of s start budgets) x) (same_Some (keeper_view s (unplugged_hand s)) v has)
-        (new_is_new None 0 [] (unplugged_hand s) None (no_left None)
+        (new_is_new None 0 [] (empty_places (frame_count s)) (Some (new_scan s)) None (no_left None) all_empty (nothing_fresh (frame_count s)) new_scan_is)
+    new_last (suc zero) v has = subst (λ (x : View). IsNew (opening_of s start budgets) x) (same_Some (keeper_view s (Some []) (free_hand s start)) v has)
+        (new_is_new None 0 [] (free_hand s start) None (Some []) (no_left None) (length-free_hand s start w) (free_fresh start) no_scan)
+    new_last (suc (suc zero)) v has = subst (λ (x : View). IsNew (opening_of s start budgets) x) (same_Some (keeper_view s None (unplugged_hand s)) v has)
+        (new_is_new None 0 [] (unplugged_hand s) None None (no_left None) (length-unplugged_hand s w)
         (both_fresh (empty_places (frames_there s)) (fresh_places s.cells (frame_count s - frames_there s)) (nothing_fresh (frames_there s)) (fresh_fresh (frame_count s - frames_there s))) no_scan)
     new_last (suc (suc (suc i))) v has = absurd (none-some v has)
 
     new_owners : (k : ℕ) (ns : List ℕ) (i : ℕ) (v : View) → Has (owner_views s k ns ++ scanner_view s ∷ keeper_views s start) i v → IsNew (opening_of s start budgets) v
     new_owners k [] i v has = new_last i v has
     new_owners k (n ∷ ns) zero v has = subst (λ (x : View). IsNew (opening_of s start budgets) x) (same_Some (owner_view s k n) v has)
-        (new_is_new (Some k) n [] (empty_places (frame_count s)) None (λ h. refl) (nothing_fresh (frame_count s)) no_scan)
+        (new_is_new (Some k) n [] (empty_places (frame_count s)) None None (λ h. refl) all_empty (nothing_fresh (frame_count s)) no_scan)
     new_owners k (n ∷ ns) (suc i) v has = new_owners (k + 1) ns i v has
 
     new_views : (i : ℕ) (v : View) → Has (opening_views s start budgets) i v → IsNew (opening_of s start budgets) v
     new_views zero v has = subst (λ (x : View). IsNew (opening_of s start budgets) x) (same_Some (driver_view s) v has)
-        (new_is_new (Some 0) 0 (replicate s.pages true) (empty_places (frame_count s)) None (no_left (Some 0)) (nothing_fresh (frame_count s)) no_scan)
+        (new_is_new (Some 0) 0 (replicate s.pages true) (empty_places (frame_count s)) None None (no_left (Some 0)) all_empty (nothing_fresh (frame_count s)) no_scan)
     new_views (suc i) v has = new_owners 1 budgets i v has
 
     -- ---- cells and marks
@@ -397,7 +417,7 @@ module _ (s : Sizes) (w : IsWithinLimits s) where
           (record {
             flags = (
               mapped_bit-packed 0 0 1 (unmovable_for kind) 0 frame 0 r,
-              ap (λ (b : ℕ). kind_of (eqb b 0)) (unmovable_bit-packed 0 0 1 (unmovable_for kind) 0 frame 0 r) ∙ kind_back kind,
+              ap (λ (b : ℕ). kind_of (eqb b 0)) (unmovable_bit-packed 0 0 1 (unmovable_for kind) 0 frame 0 r) ∙ kind_of-unmovable_for kind,
               pins_of-packed 0 0 1 (unmovable_for kind) 0 frame 0 r,
             );
             cells = λ one. ap (λ (f : ℕ). cells_of_frame (opening_of s start budgets) (opening_words s start) f) (frame_of-packed 0 0 1 (unmovable_for kind) 0 frame 0 r) ∙ cells_zero start frame are.each low;
@@ -438,5 +458,6 @@ module _ (s : Sizes) (w : IsWithinLimits s) where
           let c = at_hand_none frame (free_hand s []) (there_high [] frame (omega arith)) in let d = unplugged_past frame high in omega arith;
       one_mover = one_mover;
       one_scanner = one_scanner;
+      one_journal = one_journal;
       new = new_views;
     }

@@ -19,11 +19,13 @@ use Rattle.core_state.specs.declared.noticed.Notice.{Notice}
 use Rattle.core_state.specs.declared.opening.Opening.{Opening}
 use Rattle.core_state.specs.declared.room.CellRoom.{CellRoom}
 use Rattle.core_state.specs.declared.room.Room.{Room}
+use Rattle.core_state.specs.declared.scan.Scan.{Scan}
+use Rattle.core_state.specs.declared.scan.Swept.{Swept}
 use Rattle.core_state.specs.declared.view.View.{View}
 use Rattle.core_state.specs.Views.{Has, times_unmarked, times_in_hands}
 use Rattle.core_state.specs.Parts.{all_left}
 use Rattle.core_state.specs.Opens.{IsNew, Opens}
-use Rattle.core_state.specs.Room.{drawn_for, due_of, spare_for, IsCellRoom, IsSmall, HasRoom}
+use Rattle.core_state.specs.Room.{drawn_for, due_of, spare_for, swept_in, IsCellRoom, IsSmall, HasRoom}
 use Rattle.core_state.specs.CoreOpens.{start_pages, opening_of, opening_words, opening_views, unused_node, unused_cells, spare_at_start}
 use Rattle.core_state.proofs.Lists.{sum_by_none, within}
 use Rattle.core_state.proofs.Starts.{length-start_pages, length-spare_at_start}
@@ -37,12 +39,18 @@ one_each : (n : ℕ) (l : List FrameNo) → length l ≡ 1 → sum_by (λ (m : L
 one_each zero l e = refl
 one_each (suc n) l e = let a = sum_by-cons (λ (m : List FrameNo). length m) l (replicate n l) in let b = one_each n l e in omega arith
 
+none_swept : {o : Opening} (v : View) → IsNew o v → swept_in v.scan ≡ 0
+none_swept v new = by_scan v.scan refl where
+  by_scan : (m : Option Scan) → v.scan ≡ m → swept_in v.scan ≡ 0
+  by_scan None e = ap swept_in e
+  by_scan (Some s) e = ap swept_in e ∙ ap (λ (l : List Swept). length l) (new.swept s e)
+
 -- room for seats that have done nothing
 pub new_room : (o : Opening) (views : List View) (r : Room) (node : List FrameNo) (c : CellRoom) → ((i : ℕ) (v : View) → Has views i v → IsNew o v) → IsSmall o
     → all_left views ≤ length r.entries → length r.entries < 2 ^ 34 → r.notices ≡ [] → r.notices_made ≡ 0
     → length node ≡ 1 → r.unmarked ≡ replicate o.frames node → IsCellRoom o.cells c → r.cells ≡ replicate (length views) (Some c)
-    → length r.spare ≡ o.frames → ((f : ℕ) → f < o.frames → times_in_hands f views ≡ 0 → IsSomeAnd (spare_for r f) (λ known. length known ≡ o.cells)) → HasRoom o views r
-new_room o views r node c new small left short none made one nodes room cells spares spare = record {
+    → length r.spare ≡ o.frames → ((f : ℕ) → f < o.frames → times_in_hands f views ≡ 0 → IsSomeAnd (spare_for r f) (λ known. length known ≡ o.cells)) → length r.swept ≡ o.frames → HasRoom o views r
+new_room o views r node c new small left short none made one nodes room cells spares spare pool = record {
   small = small;
   entries = (let a = sum_by_same due_of (λ v. v.left) views (λ i v has. let b : drawn_for v.held ≡ 0 = ap (λ m. drawn_for m) (new i v has).held in omega arith) in omega arith);
   entries_short = (let a = sum_by_none (λ (v : View). length v.entries) views (λ i v has. ap (λ (l : List Entry). length l) (new i v has).entries) in omega arith);
@@ -60,16 +68,16 @@ new_room o views r node c new small left short none made one nodes room cells sp
   free = λ seat v has free.
       subst (λ (m : Option CellRoom). IsSomeAnd m (IsCellRoom o.cells))
       (sym (ap (λ (l : List (Option CellRoom)). get_or l seat None) cells ∙ get_or-replicate (length views) seat (Some c) None (within views seat v has))) room;
-  held = λ seat v h has is. absurd (none-some h (sym (new seat v has).held ∙ is));
   spares = spares;
   spare = spare;
-  in_hand = λ seat v f x has is. ap (λ (l : List (Option ℕ)). length l) ((new seat v has).hand f x is) ∙ length-replicate o.cells None;
+  swept = (let a = sum_by_none (λ (v : View). swept_in v.scan) views (λ i v has. none_swept v (new i v has)) in omega arith);
+  swept_low = λ seat v s has is. let a = ap (λ (l : List Swept). length l) ((new seat v has).swept s is) in omega arith;
 }
 
 pub core_room : (s : Sizes) (start : List StartPage) (budgets : List ℕ) (o : Opening) (views : List View) (r : Room) (n : ℕ) → IsWithinLimits s → AreStartPages s start → sum budgets < 2 ^ 33
     → o ≡ opening_of s start budgets → views ≡ opening_views s start budgets → length r.entries ≡ o.budget → r.notices ≡ [] → r.notices_made ≡ 0
-    → r.unmarked ≡ replicate (frame_count s) unused_node → n ≡ length views → r.cells ≡ replicate n (Some (unused_cells s.cells)) → r.spare ≡ spare_at_start s start → HasRoom o views r
-core_room s start budgets o views r n w are few oe ve entries none made nodes seats cells spare =
+    → r.unmarked ≡ replicate (frame_count s) unused_node → n ≡ length views → r.cells ≡ replicate n (Some (unused_cells s.cells)) → r.spare ≡ spare_at_start s start → length r.swept ≡ frame_count s → HasRoom o views r
+core_room s start budgets o views r n w are few oe ve entries none made nodes seats cells spare swept =
     let e = ap (λ (q : Opening). q.budget) oe in
     let a = budget s w start budgets in
     subst (λ (q : Opening). HasRoom q views r) (sym oe)
@@ -83,7 +91,8 @@ core_room s start budgets o views r n w are few oe ve entries none made nodes se
     (ap (λ (l : List (Option (List (Option ℕ)))). length l) spare ∙ length-spare_at_start s start)
     (λ f lt free. subst (λ (m : Option (List (Option ℕ))). IsSomeAnd m (λ known. length known ≡ s.cells))
     (sym (ap (λ (l : List (Option (List (Option ℕ)))). get_or l f None) spare ∙ spare_where_free s w start budgets are f lt free))
-    (length-replicate s.cells None))))
+    (length-replicate s.cells None))
+    swept))
 
 -- what a core is opened with is an opening
 pub core_is_open : (s : Sizes) (start : List StartPage) (budgets : List ℕ) (o : Opening) (words : List ℕ) (views : List View) → IsWithinLimits s → AreStartPages s start → sum budgets < 2 ^ 33

@@ -1,8 +1,11 @@
 -- What is read of an entry word that was taken or packed.
-use Rattle.std.proofs.Common.{◌≡◌, ℕ, ◌+◌, ◌/◌, ◌%◌, ◌<◌, bit_or, arith}
+use Rattle.std.proofs.Common.{◌≡◌, ℕ, eqb, ◌+◌, ◌/◌, ◌%◌, ◌<◌, bit_or, refl, arith}
+use Rattle.evac_model.specs.declared.names.Kind.{Kind}
+use Rattle.evac_model.specs.declared.names.Kind.TheVariants.{Movable, Unmovable}
+use Rattle.evac_model.specs.Page.{kind_of}
 use Rattle.evac_words.specs.Word.{taken_bit, moving_bit, mapped_bit, unmovable_bit, pins_of, frame_of, bound_of}
 use Rattle.evac_words.proofs.Words.{half-bit_or, taken_bit-bit_or}
-use Rattle.core_state.specs.Words.{packed, released_word}
+use Rattle.core_state.specs.Words.{unmovable_for, packed, released_word}
 
 -- ---- taken
 
@@ -17,6 +20,18 @@ bound-from_half w x e = omega arith
 
 pub bound_of-take : (w : ℕ) → bound_of (bit_or w 1) ≡ bound_of w
 bound_of-take w = bound-from_half (bit_or w 1) w (half-bit_or w)
+
+-- ---- kinds
+
+pub unmovable_for-fits : (k : Kind) → unmovable_for k < 2
+unmovable_for-fits Movable = omega arith
+unmovable_for-fits Unmovable = omega arith
+
+pub kind_of-unmovable_for : (k : Kind) → kind_of (eqb (unmovable_for k) 0) ≡ k
+kind_of-unmovable_for Movable = refl
+kind_of-unmovable_for Unmovable = refl
+
+-- ---- flags
 
 -- all that a word says but the taken bit and the bound is what the other says
 pub record SameFlags (w x : ℕ) : Type 0 where

@@ -1,5 +1,7 @@
 -- The two hands after frames went from the one to the other, frame by frame.
-use Rattle.std.proofs.Common.{◌≡◌, ℕ, ◌+◌, ◌-◌, ◌<◌, ◌≤◌, ◌⊎◌, List, ◌++◌, length, length-append, length-take, length-drop, get_or, take, drop, replicate, ap, ◌∙◌, ⊎_elim, arith, None}
+use Rattle.std.proofs.Common.{◌≡◌, ℕ, ◌+◌, ◌-◌, ◌<◌, ◌≤◌, ◌⊎◌, List, ◌++◌, length, length-append, length-take, length-drop, get_or, take, drop, replicate, ap, ◌∙◌, inl, inr, ⊎_elim, arith, None}
+use mathlib.Core.Logic.{dite}
+use native.Mathlib.Decide.{dec_le}
 use Rattle.std.proofs.lemmas.List.{length-replicate, get_or_append_left, get_or-append_right, get_or-replicate, get_or-take, get_or-drop}
 use Rattle.core_state.specs.declared.opening.Opening.{Opening}
 use Rattle.core_state.specs.declared.view.View.{View}
@@ -31,7 +33,17 @@ module _ {A : Type 0} (xs mid : List A) (a n : ℕ) (d : A) (size : length mid �
       get_or-append_right (take a xs ++ mid) (drop (a + n) xs) (a + n) k d length-front_and_mid high
       ∙ get_or-drop (a + n) xs (k - (a + n)) d ∙ ap (λ (j : ℕ). get_or xs j d) q
 
+  -- the list is as long as it was
+  pub length-parts : length (take a xs ++ mid ++ drop (a + n) xs) ≡ length xs
+  length-parts = let b = length-front_and_mid in let c = length-append (take a xs ++ mid) (drop (a + n) xs) in let e = length-drop (a + n) xs in omega arith
+
 -- ---- the two hands
+
+-- a frame is one of the n from the first one on, or it isn't
+pub is_handed : (first n f : ℕ) → ((first ≤ f) × (f < first + n)) ⊎ ((f < first) ⊎ (first + n ≤ f))
+is_handed first n f = dite (dec_le first f)
+    (λ low. dite (dec_le (first + n) f) (λ high. inr (inr high)) (λ no. inl (low, omega arith)))
+    (λ no. inr (inl (omega arith)))
 
 module _ (o : Opening) (giver receiver : View) (first n : ℕ) (may : MayHandOver o giver receiver first n) where
   giver_fits : first + n ≤ length giver.hand
@@ -42,6 +54,12 @@ module _ (o : Opening) (giver receiver : View) (first n : ℕ) (may : MayHandOve
 
   length-given : length (take n (drop first giver.hand)) ≡ n
   length-given = length-take n (drop first giver.hand) ∙ (let a = length-drop first giver.hand in let b = giver_fits in omega arith)
+
+  pub length-without : length (hand_without giver.hand first n) ≡ length giver.hand
+  length-without = length-parts giver.hand (replicate n None) first n None (length-replicate n None) giver_fits
+
+  pub length-with : length (hand_with receiver.hand giver.hand first n) ≡ length receiver.hand
+  length-with = length-parts receiver.hand (take n (drop first giver.hand)) first n None length-given receiver_fits
 
   -- a frame that is handed over
   pub left_giver : (f : ℕ) → first ≤ f → f < first + n → get_or (hand_without giver.hand first n) f None ≡ None

@@ -44,30 +44,43 @@ one_more o views k st e is found page =
           ∙ is page
           ∙ sym (ap (λ (b : Bool). cond b (answer_at o.cells (page_after o views page k) e.call e.reply).1 (page_after o views page k)) (ne_eqb e.page.0 page (λ q. ne (sym q)))))
 
--- entries from ticket number k on are legal, and the state after them has the pages after so many tickets
+-- the state after entries from ticket number k on has the pages after so many tickets
+pub states_from : (o : Opening) (views : List View) (k : ℕ) (st : PlainState) (es : List Entry) → IsStateAfter o views k st → ((j : ℕ) (e : Entry) → slice_get es j ≡ Some e → entry_with (o.first + (k + j)) views ≡ Some e)
+    → IsStateAfter o views (k + length es) (after_entries o.cells st es)
+states_from o views k st [] is each page = is page ∙ ap (page_after o views page) (omega arith)
+states_from o views k st (e ∷ es) is each page =
+    let found : entry_with (o.first + k) views ≡ Some e = ap (λ (n : ℕ). entry_with (o.first + n) views) (omega arith) ∙ each 0 e refl in
+    let there : suc k + length es ≡ k + length (e ∷ es) = omega arith in
+    states_from o views (suc k) (after_entry o.cells st e) es (one_more o views k st e is found)
+    (λ j x at. ap (λ (n : ℕ). entry_with (o.first + n) views) (omega arith) ∙ each (suc j) x at) page
+    ∙ ap (page_after o views page) there
+
+-- entries from ticket number k on are legal
 legal_from : (o : Opening) (words : List ℕ) (views : List View) (k : ℕ) (st : PlainState) (es : List Entry) → Pages o words views → IsStateAfter o views k st
     → o.first + (k + length es) ≡ next_ticket_of words
     → ((j : ℕ) (e : Entry) → slice_get es j ≡ Some e → entry_with (o.first + (k + j)) views ≡ Some e)
-    → IsLegalFrom o.cells (o.first + k) st es × IsStateAfter o views (k + length es) (after_entries o.cells st es)
-legal_from o words views k st [] s is all each = (tt, λ page. is page ∙ ap (page_after o views page) (omega arith))
+    → IsLegalFrom o.cells (o.first + k) st es
+legal_from o words views k st [] s is all each = tt
 legal_from o words views k st (e ∷ es) s is all each =
     let found : entry_with (o.first + k) views ≡ Some e = ap (λ (n : ℕ). entry_with (o.first + n) views) (omega arith) ∙ each 0 e refl in
     let rest = legal_from o words views (suc k) (after_entry o.cells st e) es s (one_more o views k st e is found) (omega arith)
     (λ j x at. ap (λ (n : ℕ). entry_with (o.first + n) views) (omega arith) ∙ each (suc j) x at) in
-    let up : o.first + suc k ≡ o.first + k + 1 = omega arith in
-    let there : k + length (e ∷ es) ≡ suc k + length es = omega arith in (
-      (
-        (entry_with-found (o.first + k) views e found).0,
-        ap (λ (m : Page). (answer_at o.cells m e.call e.reply).0) (is e.page.0) ∙ s.replies k e (omega arith) found,
-        subst (λ (t : ℕ). IsLegalFrom o.cells t (after_entry o.cells st e) es) up rest.0,
-      ),
-      λ page. rest.1 page ∙ ap (page_after o views page) (sym there),
+    let up : o.first + suc k ≡ o.first + k + 1 = omega arith in (
+      (entry_with-found (o.first + k) views e found).0,
+      ap (λ (m : Page). (answer_at o.cells m e.call e.reply).0) (is e.page.0) ∙ s.replies k e (omega arith) found,
+      subst (λ (t : ℕ). IsLegalFrom o.cells t (after_entry o.cells st e) es) up rest,
     )
+
+-- the entry of the history with a number has the ticket of that number
+numbered : (o : Opening) (words : List ℕ) (views : List View) (entries : List Entry) → IsHistoryOf o words views entries → (j : ℕ) (e : Entry) → slice_get entries j ≡ Some e → entry_with (o.first + (0 + j)) views ≡ Some e
+numbered o words views entries h j e at = ap (λ (n : ℕ). entry_with (o.first + n) views) (omega arith) ∙ h.each j e at
 
 pub from_opening : (o : Opening) (words : List ℕ) (views : List View) (start : PlainState) (entries : List Entry) → Sound o words views → IsOpeningState o start → IsHistoryOf o words views entries
     → IsLegalFrom o.cells (o.first + 0) start entries × IsStateAfter o views (0 + length entries) (after_entries o.cells start entries)
-from_opening o words views start entries s is h = legal_from o words views 0 start entries s.pages is (omega (arith, h.count))
-    (λ j e at. ap (λ (n : ℕ). entry_with (o.first + n) views) (omega arith) ∙ h.each j e at)
+from_opening o words views start entries s is h = (
+  legal_from o words views 0 start entries s.pages is (omega (arith, h.count)) (numbered o words views entries h),
+  states_from o views 0 start entries is (numbered o words views entries h),
+)
 
 pub histories_are_legal : (o : Opening) (words : List ℕ) (views : List View) (start : PlainState) (entries : List Entry) → Sound o words views → IsOpeningState o start → IsHistoryOf o words views entries
     → IsLegalFrom o.cells o.first start entries

@@ -1,5 +1,5 @@
 -- Lists read by `slice_get`, and sums over lists of which one member is replaced.
-use Rattle.std.proofs.Common.{◌≡◌, ℕ, zero, suc, ◌+◌, ◌<◌, ◌≤◌, ◌≢◌, ◌⊎◌, List, [], ◌∷◌, ◌++◌, length, set, refl, ap, inl, inr, ⊎_elim, arith, Some}
+use Rattle.std.proofs.Common.{◌≡◌, ℕ, zero, suc, ◌+◌, ◌<◌, ◌≤◌, ◌≢◌, ◌⊎◌, List, [], ◌∷◌, ◌++◌, length, set, refl, ap, ◌∙◌, inl, inr, ⊎_elim, arith, Some}
 use Rattle.std.specs.List.{sum_by, slice_get}
 use Rattle.std.proofs.lemmas.List.Sums.{sum_by-cons}
 use Rattle.std.proofs.lemmas.Option.{same_Some, none-some}
@@ -71,11 +71,29 @@ module _ {A : Type 0} where
   at_longer (x ∷ xs) m zero a e = e
   at_longer (x ∷ xs) m (suc i) a e = at_longer xs m i a e
 
+  pub at_append : (l m : List A) (k : ℕ) (a : A) → slice_get (l ++ m) k ≡ Some a → (slice_get l k ≡ Some a) ⊎ ((j : ℕ) × (slice_get m j ≡ Some a))
+  at_append [] m k a e = inr (k, e)
+  at_append (x ∷ xs) m zero a e = inl e
+  at_append (x ∷ xs) m (suc k) a e = at_append xs m k a e
+
+  pub at_beyond : (l m : List A) (k : ℕ) (a : A) → slice_get m k ≡ Some a → slice_get (l ++ m) (length l + k) ≡ Some a
+  at_beyond [] m k a e = let q : zero + k ≡ k = omega arith in ap (λ j. slice_get m j) q ∙ e
+  at_beyond (x ∷ xs) m k a e = let q : suc (length xs) + k ≡ suc (length xs + k) = omega arith in ap (λ j. slice_get (x ∷ (xs ++ m)) j) q ∙ at_beyond xs m k a e
+
   pub at_snoc : (l : List A) (a b : A) (j : ℕ) → slice_get (l ++ a ∷ []) j ≡ Some b → (slice_get l j ≡ Some b) ⊎ (a ≡ b)
   at_snoc [] a b zero e = inr (same_Some a b e)
   at_snoc [] a b (suc j) e = absurd (none-some b e)
   at_snoc (x ∷ xs) a b zero e = inl e
   at_snoc (x ∷ xs) a b (suc j) e = at_snoc xs a b j e
+
+  pub set_longer : (l m : List A) (i : ℕ) (a : A) → i < length l → set (l ++ m) i a ≡ set l i a ++ m
+  set_longer [] m i a h = absurd (omega arith)
+  set_longer (x ∷ xs) m zero a h = refl
+  set_longer (x ∷ xs) m (suc i) a h = ap (λ l. x ∷ l) (set_longer xs m i a (omega arith))
+
+  pub set_last : (l : List A) (a b : A) → set (l ++ a ∷ []) (length l) b ≡ l ++ b ∷ []
+  set_last [] a b = refl
+  set_last (x ∷ xs) a b = ap (λ l. x ∷ l) (set_last xs a b)
 
   pub at_last : (l : List A) (a : A) → slice_get (l ++ a ∷ []) (length l) ≡ Some a
   at_last [] a = refl

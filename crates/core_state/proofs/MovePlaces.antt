@@ -7,27 +7,30 @@ use mathlib.Core.Logic.{dite}
 use native.Mathlib.Decide.{dec_le}
 use Rattle.evac_model.specs.Page.{Page}
 use Rattle.evac_model.specs.declared.names.FrameNo.{FrameNo}
+use Rattle.evac_model.specs.declared.names.Kind.{Kind}
 use Rattle.evac_words.specs.Word.{moving_bit, mapped_bit, frame_of}
 use Rattle.core_state.specs.declared.hand.HandFrame.{HandFrame}
 use Rattle.core_state.specs.declared.held.Held.{Held}
 use Rattle.core_state.specs.declared.keeper.Keeper.TheVariants.{OneOwner}
 use Rattle.core_state.specs.declared.opening.Opening.{Opening}
 use Rattle.core_state.specs.declared.room.Room.{Room}
-use Rattle.core_state.specs.declared.step.MoveStep.TheVariants.{Remap, Unmap}
+use Rattle.core_state.specs.declared.step.MoveStep.TheVariants.{Remap, Map, Unmap}
 use Rattle.core_state.specs.declared.view.View.{View}
 use Rattle.core_state.specs.Words.{entry_word_of}
 use Rattle.core_state.specs.Views.{Has, IsSeated, hand_frame, times_in_hands, maps_to}
+use Rattle.core_state.specs.Seats.{IsHeldRoom, Seats}
 use Rattle.core_state.specs.Pages.{Flagged}
 use Rattle.core_state.specs.Sound.{Sound}
-use Rattle.core_state.specs.Room.{spare_for, IsHeldRoom, HasRoom}
+use Rattle.core_state.specs.Room.{spare_for, HasRoom}
 use Rattle.core_state.specs.Steps.{held_word}
-use Rattle.core_state.specs.MoveSteps.{InHand, MayRemap, MayUnmap, AllowedMove}
+use Rattle.core_state.specs.MoveSteps.{InHand, MayRemap, MayMap, MayUnmap, AllowedMove}
 use Rattle.core_state.proofs.Frames.{maps_to-one, frame_once, maps_le}
 use Rattle.core_state.proofs.StepPlaces.{owned_frame}
+use Rattle.core_state.proofs.SeatSteps.{held_room}
 use Rattle.core_state.proofs.RoomMoves.{for_some_in, IsFor}
 
 -- a page whose word has the moving bit is mapped
-moving_is_mapped : (w : ℕ) (m : Page) → Flagged w m → moving_bit w ≡ 1 → mapped_bit w ≡ 1
+pub moving_is_mapped : (w : ℕ) (m : Page) → Flagged w m → moving_bit w ≡ 1 → mapped_bit w ≡ 1
 moving_is_mapped w None f e = absurd (omega arith)
 moving_is_mapped w (Some m) f e = f.0
 
@@ -64,12 +67,16 @@ module _ (o : Opening) (words : List ℕ) (views : List View) (s : Sound o words
   pub old_spare : (r : Room) → HasRoom o views r → (h : Held) → v.held ≡ Some h → mapped_bit h.word ≡ 1 → IsFor o.cells (spare_for r (frame_of h.word))
   old_spare r k h is mapped = k.spare (frame_of h.word) (old_low h is mapped) (old_in_no_hand h is mapped)
 
-pub held_room : (o : Opening) (views : List View) (r : Room) (seat : ℕ) (v : View) → Has views seat v → HasRoom o views r → IsSeated o v → (P : Held → Type 0) → IsSomeAnd v.held P → IsSomeAnd v.held (IsHeldRoom v.cells)
-held_room o views r seat v at k seated P some = let q = for_some_in v.held P some in
-    subst (λ (m : Option Held). IsSomeAnd m (IsHeldRoom v.cells)) (sym q.1) (subst (λ (n : ℕ). IsHeldRoom n q.0) (sym seated.cells) (k.held seat v q.0 at q.1))
+-- the page that is held has places for its cells
+pub held_has_room : (o : Opening) (views : List View) (seat : ℕ) (v : View) → Has views seat v → Seats o views → IsSeated o v → (P : Held → Type 0) → IsSomeAnd v.held P → IsSomeAnd v.held (IsHeldRoom v.cells)
+held_has_room o views seat v at s seated P some = let q = for_some_in v.held P some in
+    subst (λ (m : Option Held). IsSomeAnd m (IsHeldRoom v.cells)) (sym q.1) (subst (λ (n : ℕ). IsHeldRoom n q.0) (sym seated.cells) (held_room o views s seat v at q.0 q.1))
 
 pub remap_place : (o : Opening) (v : View) (frame : FrameNo) → AllowedMove OneOwner o v (Remap frame) → frame.0 < length v.hand
 remap_place o v frame may = let q = for_some_in v.held (λ h. InHand v frame.0 (MayRemap OneOwner o h)) may.1 in hand_place o v frame.0 (MayRemap OneOwner o q.0) may.0 q.2
+
+pub map_place : (o : Opening) (v : View) (frame : FrameNo) (kind : Kind) → AllowedMove OneOwner o v (Map frame kind) → frame.0 < length v.hand
+map_place o v frame kind may = let q = for_some_in v.held (λ h. InHand v frame.0 (λ x. MayMap OneOwner o h x kind)) may.1 in hand_place o v frame.0 (λ x. MayMap OneOwner o q.0 x kind) may.0 q.2
 
 -- ---- the steps that let the held page's frame go
 
@@ -90,10 +97,17 @@ module _ (o : Opening) (words : List ℕ) (views : List View) (s : Sound o words
   old_frame_low on = let q = for_some_in v.held (λ h. mapped_bit h.word ≡ 1) on in
       subst (λ (m : Option Held). frame_of (held_word m) < o.frames) (sym q.1) (old_low o words views s seat v at q.0 q.1 q.2)
 
-  -- the places for its cells, where they were taken out
-  pub old_frame_spare : (r : Room) (frame n : ℕ) (m : Option (List (Option ℕ))) → HasRoom o views r → IsOnFrame v → frame ≡ frame_of (held_word v.held) → n ≡ o.cells → m ≡ get_or r.spare frame None → IsFor n m
-  old_frame_spare r frame n m k on was size is = let q = for_some_in v.held (λ h. mapped_bit h.word ≡ 1) on in
+  -- the places for its cells are there
+  pub old_frame_has : (r : Room) (frame : ℕ) → HasRoom o views r → IsOnFrame v → frame ≡ frame_of (held_word v.held) → IsSome (get_or r.spare frame None)
+  old_frame_has r frame k on was = let q = for_some_in v.held (λ h. mapped_bit h.word ≡ 1) on in
       let e : frame ≡ frame_of (q.0).word = was ∙ ap (λ (m : Option Held). frame_of (held_word m)) q.1 in
-      subst (λ (c : ℕ). IsFor c m) (sym size)
-      (subst (λ (l : Option (List (Option ℕ))). IsFor o.cells l) (sym (is ∙ ap (λ (f : ℕ). get_or r.spare f None) e))
-      (old_spare o words views s seat v at r k q.0 q.1 q.2))
+      let p = for_some_in (spare_for r (frame_of (q.0).word)) (λ known. length known ≡ o.cells) (old_spare o words views s seat v at r k q.0 q.1 q.2) in
+      subst (λ (l : Option (List (Option ℕ))). IsSome l) (sym (ap (λ (f : ℕ). get_or r.spare f None) e ∙ p.1)) refl
+
+  -- and are as many, where they were taken out
+  pub old_frame_spare : (r : Room) (frame n : ℕ) (known : List (Option ℕ)) → HasRoom o views r → IsOnFrame v → frame ≡ frame_of (held_word v.held) → n ≡ o.cells → get_or r.spare frame None ≡ Some known → length known ≡ n
+  old_frame_spare r frame n known k on was size is = let q = for_some_in v.held (λ h. mapped_bit h.word ≡ 1) on in
+      let e : frame ≡ frame_of (q.0).word = was ∙ ap (λ (m : Option Held). frame_of (held_word m)) q.1 in
+      subst (λ (l : Option (List (Option ℕ))). IsFor o.cells l) (sym (ap (λ (f : ℕ). get_or r.spare f None) e) ∙ is)
+      (old_spare o words views s seat v at r k q.0 q.1 q.2)
+      ∙ sym size

@@ -65,6 +65,10 @@ has_entry-kept views i v w e at keep p = dite (ℕ_discrete p.seat i)
     record { seat = i; view = w; place = p.place; has = set_here views i w (within views i v at); at = keep p.place e (ap (λ (x : View). slice_get x.entries p.place) same ∙ p.at) })
     (λ ne. record { seat = p.seat; view = p.view; place = p.place; has = set_else views i p.seat w ne ∙ p.has; at = p.at })
 
+-- with the entries that it had
+pub has_entry-same : (views : List View) (i : ℕ) (v w : View) → Has views i v → w.entries ≡ v.entries → (e : Entry) → HasEntry views e → HasEntry (set views i w) e
+has_entry-same views i v w at same e = has_entry-kept views i v w e at (λ k x q. ap (λ (es : List Entry). slice_get es k) same ∙ q)
+
 module _ (o : Opening) (words : List ℕ) (views : List View) (i : ℕ) (v : View) (s : NoticedWords o words views) (at : Has views i v) where
   pub is_noticed-kept : (j n : ℕ) (w : View) (c : Notice)
       → ((e : Entry) → HasEntry views e → HasEntry (set views i w) e)
@@ -134,23 +138,17 @@ module _ (o : Opening) (words : List ℕ) (views : List View) (i : ℕ) (v : Vie
 
   -- a step that leaves word 0 and the entry words, by a seat that holds what it held
   pub noticed-alike : (j n : ℕ) (w : View) → ((page : ℕ) → page < o.pages → entry_word_of (set words j n) page ≡ entry_word_of words page) → Alike v w → NoticedWords o (set words j n) (set views i w)
-  noticed-alike j n w words_same a = noticed-kept j n w keep
+  noticed-alike j n w words_same a = noticed-kept j n w (has_entry-same views i v w at a.entries)
       (λ page lt. let e : bound_of (entry_word_of (set words j n) page) ≡ bound_of (entry_word_of words page) = ap bound_of (words_same page lt) in omega arith)
       (λ c old. page_before-kept o views i v w c.page.0 (bound_of c.word) at a.entries)
       (λ h is. let q = a.held.before h is in ⊎_elim
       (λ d. inl (subst (λ (m : Option ℕ). IsSome m) (sym q.4) d))
-      (⊎_elim (λ d. inr (inl (let e = a.left in omega arith))) (λ d. inr (inr (subst (λ (p : PageNo). 0 < right_to p.0 w) (sym q.2) (let e = right_same (q.0).page.0 in omega arith)))))
+      (⊎_elim (λ d. inr (inl (let e = a.left in omega arith))) (λ d. inr (inr (subst (λ (p : PageNo). 0 < right_to p.0 w) (sym q.2) (let e = right_kept v w (q.0).page.0 a.mover in omega arith)))))
       (s.may_hold i v q.0 at q.1))
       (λ x c is. inl (ap (λ (y : Noticed). slice_get y.by_right x) (sym a.noticed) ∙ is))
       (λ c is. inl (ap (λ (y : Noticed). y.last) (sym a.noticed) ∙ is))
-      (λ c old l. followed-kept w c keep
+      (λ c old l. followed-kept w c (has_entry-same views i v w at a.entries)
       (λ h t is on drawn late. let q = a.held.later h is in inr (inl record { holder = mine c.page.0 q.0 q.1 (ap (λ (p : PageNo). p.0) q.2 ∙ on); ticket = t; drawn = q.4 ∙ drawn; late = late }))
-      (λ h is on some no. let q = a.held.later h is in inr (inr record { holder = mine c.page.0 q.0 q.1 (ap (λ (p : PageNo). p.0) q.2 ∙ on); left = (let e = a.left in omega arith); no_right = right_same c.page.0 ∙ no })) l) where
-        keep : (e : Entry) → HasEntry views e → HasEntry (set views i w) e
-        keep e = has_entry-kept views i v w e at (λ x y q. ap (λ (es : List Entry). slice_get es x) a.entries ∙ q)
-
-        right_same : (page : ℕ) → right_to page w ≡ right_to page v
-        right_same page = right_kept v w page a.mover
-
+      (λ h is on some no. let q = a.held.later h is in inr (inr record { holder = mine c.page.0 q.0 q.1 (ap (λ (p : PageNo). p.0) q.2 ∙ on); left = (let e = a.left in omega arith); no_right = right_kept v w c.page.0 a.mover ∙ no })) l) where
         mine : (page : ℕ) (h : Held) → w.held ≡ Some h → h.page.0 ≡ page → HasHolder (set views i w) page
         mine page h is on = record { seat = i; view = w; hold = h; has = set_here views i w (within views i v at); is = is; on = on }

@@ -1,6 +1,7 @@
 -- The opening is sound.
-use Rattle.std.proofs.Common.{◌≡◌, ℕ, eqb, zero, suc, ◌-◌, List, [], ◌∷◌, length, get_or, take, sym, refl, ap, ◌∙◌, subst, arith, Option, None}
+use Rattle.std.proofs.Common.{◌≡◌, ℕ, eqb, zero, suc, ◌-◌, List, [], ◌∷◌, length, get_or, take, sym, refl, ap, ◌∙◌, subst, inr, arith, Option, None}
 use Rattle.std.specs.List.{slice_get, count_by}
+use Rattle.std.proofs.lemmas.List.{length-replicate}
 use Rattle.std.proofs.lemmas.Option.{none-some}
 use Rattle.evac_model.specs.declared.names.FrameNo.{FrameNo}
 use Rattle.evac_model.specs.declared.entry.Entry.{Entry}
@@ -12,7 +13,9 @@ use Rattle.core_state.specs.Words.{next_ticket_of, entry_word_of, cells_of_frame
 use Rattle.core_state.specs.Views.{Has, holds_page, times_unmarked}
 use Rattle.core_state.specs.Parts.{uses, uses_of, drawn_as, latest_in, latest}
 use Rattle.core_state.specs.Pages.{page_after, page_now, page_cells, FreeShows, Agrees}
-use Rattle.core_state.specs.Opens.{Opens}
+use Rattle.core_state.specs.Copies.{Copied}
+use Rattle.core_state.specs.Seats.{IsSeat}
+use Rattle.core_state.specs.Opens.{IsNew, Opens}
 use Rattle.core_state.specs.Sound.{Sound}
 use Rattle.core_state.proofs.Lists.{sum_by_none}
 use Rattle.core_state.proofs.Pages.{agrees-nothing}
@@ -29,9 +32,21 @@ module _ (o : Opening) (words : List ℕ) (views : List View) (p : Opens o words
   now : (page : ℕ) → page_now o words views page ≡ get_or o.start page None
   now page = let a = p.first_is in let q : next_ticket_of words - o.first ≡ zero = omega arith in ap (λ k. page_after o views page k) q
 
+  new_seat : (v : View) → IsNew o v → IsSeat o v
+  new_seat v n = record {
+    seated = n.seated;
+    held = λ h is. absurd (none-some h (sym n.held ∙ is));
+    in_hand = λ f x is. ap (λ (l : List (Option ℕ)). length l) (n.hand f x is) ∙ length-replicate o.cells None;
+    copies = λ s f is lt. ap (λ (c : Copied). c.places) (n.copies s f is lt);
+  }
+
   pub openings_are_sound : Sound o words views
   openings_are_sound = record {
     shaped = p.shaped;
+    seats = record {
+      each = λ i v has. inr (new_seat v (p.new i v has));
+      one_journal = p.one_journal;
+    };
     turn = record {
       taken_by_one = λ page lt. sum_by_none (λ v. holds_page page v.held) views (λ i v has. ap (λ m. holds_page page m) (p.new i v has).held) ∙ sym (p.free page lt);
       held_word = λ i v h has is. absurd (none-some h (sym (p.new i v has).held ∙ is));
@@ -74,6 +89,6 @@ module _ (o : Opening) (words : List ℕ) (views : List View) (p : Opens o words
     image = record {
       one_scanner = p.one_scanner;
       dirty = λ f lt. let a = p.clean f lt in omega arith;
-      copied = λ i v s f has is lt zero_word none. subst (λ (l : List ℕ). l ≡ take (length l) (cells_of_frame o words f)) (sym ((p.new i v has).scan s f is)) refl;
+      copied = λ i v s f has is lt zero_word none. subst (λ (l : List ℕ). l ≡ take (length l) (cells_of_frame o words f)) (sym (ap (λ (c : Copied). c.cells) ((p.new i v has).copies s f is lt))) refl;
     };
   }

@@ -17,13 +17,17 @@ use Rattle.core_state.specs.declared.noticed.Notice.{Notice}
 use Rattle.core_state.specs.declared.opening.Opening.{Opening}
 use Rattle.core_state.specs.declared.room.CellRoom.{CellRoom}
 use Rattle.core_state.specs.declared.room.Room.{Room}
+use Rattle.core_state.specs.declared.scan.Scan.{Scan}
+use Rattle.core_state.specs.declared.scan.Swept.{Swept}
 use Rattle.core_state.specs.declared.step.CallDone.{CallDone}
 use Rattle.core_state.specs.declared.view.View.{View}
 use Rattle.core_state.specs.Views.{Has, view_of, spent, right_to, maps_to, times_unmarked, hand_frame, times_in_hand, times_in_hands}
-use Rattle.core_state.specs.Room.{drawn_for, due_of, nodes_of, cells_for, spare_for, IsCellRoom, IsHeldRoom, HasRoom}
+use Rattle.core_state.specs.Room.{drawn_for, due_of, nodes_of, cells_for, spare_for, swept_in, come_to, IsCellRoom, HasRoom}
+use Rattle.core_state.specs.Seats.{Seats}
 use Rattle.core_state.specs.Steps.{MayTake, MayDraw, MayEnd, MayRelease, newly_held, held_after_take, notice_of, entry_of, with_ticket, with_load, with_store, with_hand_store, note, after_take, after_draw, after_load, after_store, after_mark, after_release}
 use Rattle.core_state.proofs.Lists.{at_set, sum_by_replaced, sum_by_kept, member_le_sum_by, within}
 use Rattle.core_state.proofs.Holding.{for_some, some_is, drawing, with_ticket-some}
+use Rattle.core_state.proofs.SeatSteps.{SameRoom, same_room-refl, same_room-ticket, same_room-load, same_room-store, SameHand, same_hand, same_hand-store, held_room}
 use Rattle.core_state.proofs.FrameSteps.{count_of-without_other, count_of-without_same, unmarked-store_other}
 
 -- what one step of a seat does to the room, where its view was v and is w
@@ -38,10 +42,10 @@ pub record Balanced (o : Opening) (views : List View) (seat : ℕ) (v w : View) 
   pub seats : length s.cells ≡ length r.cells
   pub others : (j : ℕ) → j ≢ seat → cells_for s j ≡ cells_for r j
   pub free : w.held ≡ None → IsSomeAnd (cells_for s seat) (IsCellRoom o.cells)
-  pub held : (h : Held) → w.held ≡ Some h → IsHeldRoom o.cells h
   pub spares : length s.spare ≡ length r.spare
   pub spare : (f : ℕ) → f < o.frames → times_in_hands f (set views seat w) ≡ 0 → IsSomeAnd (spare_for s f) (λ known. length known ≡ o.cells)
-  pub in_hand : (f : ℕ) (x : HandFrame) → hand_frame w f ≡ Some x → length x.stores ≡ o.cells
+  pub swept : swept_in w.scan + length s.swept ≡ swept_in v.scan + length r.swept
+  pub swept_low : (z : Scan) → w.scan ≡ Some z → length z.swept ≤ come_to z.at
 
 pub room-kept : (o : Opening) (views : List View) (seat : ℕ) (v w : View) (r s : Room) → Has views seat v → HasRoom o views r → Balanced o views seat v w r s → HasRoom o (set views seat w) s
 room-kept o views seat v w r s at k b = record {
@@ -58,15 +62,12 @@ room-kept o views seat v w r s at k b = record {
       (λ q. subst (λ (n : ℕ). IsSomeAnd (cells_for s n) (IsCellRoom o.cells)) (sym q.0) (b.free (ap (λ (x : View). x.held) q.1 ∙ none)))
       (λ q. subst (λ (m : Option CellRoom). IsSomeAnd m (IsCellRoom o.cells)) (sym (b.others j q.0)) (k.free j u q.1 none))
       (at_set views seat j w u has);
-  held = λ j u h has is. ⊎_elim
-      (λ q. b.held h (ap (λ (x : View). x.held) q.1 ∙ is))
-      (λ q. k.held j u h q.1 is)
-      (at_set views seat j w u has);
   spares = b.spares ∙ k.spares;
   spare = b.spare;
-  in_hand = λ j u f x has is. ⊎_elim
-      (λ q. b.in_hand f x (ap (λ (y : View). hand_frame y f) q.1 ∙ is))
-      (λ q. k.in_hand j u f x q.1 is)
+  swept = (let x = sum_by_replaced (λ u. swept_in u.scan) views seat v w at in let y = k.swept in let z = b.swept in omega arith);
+  swept_low = λ j u z has is. ⊎_elim
+      (λ q. b.swept_low z (ap (λ (x : View). x.scan) q.1 ∙ is))
+      (λ q. k.swept_low j u z q.1 is)
       (at_set views seat j w u has);
 }
 
@@ -86,39 +87,7 @@ module _ (views : List View) (seat : ℕ) (x : View) (lt : seat < length views) 
   pub lent_is : view_of views seat ≡ x
   lent_is = get_or_from_slice_get views seat x spent lent_has
 
--- ---- what is held before and after, in the same places
-
-pub record SameRoom (m n : Option Held) : Type 0 where
-  pub free : n ≡ None → m ≡ None
-  pub held : (g : Held) → n ≡ Some g → (h : Held) × (m ≡ Some h) × (length g.loads ≡ length h.loads) × (length g.stores ≡ length h.stores)
-
-same_room-none : SameRoom None None
-same_room-none = record { free = λ e. e; held = λ g e. absurd (none-some g e) }
-
-same_room-some : (h g : Held) → length g.loads ≡ length h.loads → length g.stores ≡ length h.stores → SameRoom (Some h) (Some g)
-same_room-some h g l s = record {
-  free = λ e. absurd (none-some g (sym e));
-  held = λ k e. let q = same_Some g k e in (h, refl, ap (λ (x : Held). length x.loads) (sym q) ∙ l, ap (λ (x : Held). length x.stores) (sym q) ∙ s);
-}
-
-same_room-ticket : (m : Option Held) (t : ℕ) → SameRoom m (with_ticket m t)
-same_room-ticket None t = same_room-none
-same_room-ticket (Some h) t = same_room-some h (record h { ticket = Some t }) refl refl
-
-length-note : (m : Option ℕ) (loads : List (Option ℕ)) (cell x : ℕ) → length (note m loads cell x) ≡ length loads
-length-note None loads cell x = length-set loads cell (Some x)
-length-note (Some y) loads cell x = refl
-
-same_room-load : (m : Option Held) (cell x : ℕ) → SameRoom m (with_load m cell x)
-same_room-load None cell x = same_room-none
-same_room-load (Some h) cell x = same_room-some h (record h { loads = note (get_or h.stores cell None) h.loads cell x }) (length-note (get_or h.stores cell None) h.loads cell x) refl
-
-same_room-store : (m : Option Held) (frame cell x : ℕ) → SameRoom m (with_store m frame cell x)
-same_room-store None frame cell x = same_room-none
-same_room-store (Some h) frame cell x = by_bit (eqb (maps_to frame h.word) 1) where
-  by_bit : (b : Bool) → SameRoom (Some h) (Some (cond b (record h { stores = set h.stores cell (Some x) }) h))
-  by_bit true = same_room-some h (record h { stores = set h.stores cell (Some x) }) refl (length-set h.stores cell (Some x))
-  by_bit false = same_room-some h h refl refl
+-- ---- tickets drawn
 
 drawn_for-load : (m : Option Held) (cell x : ℕ) → drawn_for (with_load m cell x) ≡ drawn_for m
 drawn_for-load None cell x = refl
@@ -131,50 +100,25 @@ drawn_for-store (Some h) frame cell x = by_bit (eqb (maps_to frame h.word) 1) wh
   by_bit true = refl
   by_bit false = refl
 
--- ---- the hand before and after, each frame in its place
-
-pub record SameHand (m n : List (Option HandFrame)) : Type 0 where
-  pub times : (f : ℕ) → bit_of (is_some (get_or n f None)) ≡ bit_of (is_some (get_or m f None))
-  pub stores : (f : ℕ) (y : HandFrame) → get_or n f None ≡ Some y → (x : HandFrame) × (get_or m f None ≡ Some x) × (length y.stores ≡ length x.stores)
-
-pub same_hand : (m n : List (Option HandFrame)) → n ≡ m → SameHand m n
-same_hand m n e = subst (λ (l : List (Option HandFrame)). SameHand m l) (sym e) (record { times = λ f. refl; stores = λ f y is. (y, is, refl) })
-
-times-store : (l : List (Option HandFrame)) (i cell x f : ℕ) → bit_of (is_some (get_or (set l i (with_hand_store (get_or l i None) cell x)) f None)) ≡ bit_of (is_some (get_or l f None))
-times-store [] i cell x f = refl
-times-store (None ∷ l) zero cell x zero = refl
-times-store (Some y ∷ l) zero cell x zero = refl
-times-store (m ∷ l) zero cell x (suc f) = refl
-times-store (m ∷ l) (suc i) cell x zero = refl
-times-store (m ∷ l) (suc i) cell x (suc f) = times-store l i cell x f
-
-stores-store : (l : List (Option HandFrame)) (i cell x f : ℕ) (z : HandFrame) → get_or (set l i (with_hand_store (get_or l i None) cell x)) f None ≡ Some z
-    → (y : HandFrame) × (get_or l f None ≡ Some y) × (length z.stores ≡ length y.stores)
-stores-store [] i cell x f z is = absurd (none-some z is)
-stores-store (None ∷ l) zero cell x zero z is = absurd (none-some z is)
-stores-store (Some y ∷ l) zero cell x zero z is = (y, refl, ap (λ (q : HandFrame). length q.stores) (sym (same_Some (record y { stores = set y.stores cell (Some x) }) z is)) ∙ length-set y.stores cell (Some x))
-stores-store (m ∷ l) zero cell x (suc f) z is = (z, is, refl)
-stores-store (m ∷ l) (suc i) cell x zero z is = (z, is, refl)
-stores-store (m ∷ l) (suc i) cell x (suc f) z is = stores-store l i cell x f z is
-
 module _ (o : Opening) (views : List View) (seat : ℕ) (v : View) (r : Room) (at : Has views seat v) (k : HasRoom o views r) where
   -- a step that leaves each frame in hand in its place
   same_spare : (w : View) → SameHand v.hand w.hand → (f : ℕ) → f < o.frames → times_in_hands f (set views seat w) ≡ 0 → IsSomeAnd (spare_for r f) (λ known. length known ≡ o.cells)
   same_spare w same f lt none = k.spare f lt (sym (sum_by_kept (λ (u : View). times_in_hand f u) views seat v w at (same.times f)) ∙ none)
 
-  same_stores : (w : View) → SameHand v.hand w.hand → (f : ℕ) (x : HandFrame) → hand_frame w f ≡ Some x → length x.stores ≡ o.cells
-  same_stores w same f x is = let q = same.stores f x is in q.2 ∙ k.in_hand seat v f q.0 at q.1
-
   -- a step that leaves what is held in its places
   same_free : (w : View) → SameRoom v.held w.held → w.held ≡ None → IsSomeAnd (cells_for r seat) (IsCellRoom o.cells)
   same_free w same none = k.free seat v at (same.free none)
 
-  same_held : (w : View) → SameRoom v.held w.held → (h : Held) → w.held ≡ Some h → IsHeldRoom o.cells h
-  same_held w same h is = let q = same.held h is in let p = k.held seat v q.0 at q.1 in record { loads = q.2 ∙ p.loads; stores = q.3 ∙ p.stores }
+  -- a step that sweeps no frame
+  pub same_swept : (s : Room) (w : View) → w.scan ≡ v.scan → s.swept ≡ r.swept → swept_in w.scan + length s.swept ≡ swept_in v.scan + length r.swept
+  same_swept s w scan pool = let a = ap swept_in scan in let b = ap (λ (l : List Swept). length l) pool in omega arith
+
+  pub same_low : (w : View) → w.scan ≡ v.scan → (z : Scan) → w.scan ≡ Some z → length z.swept ≤ come_to z.at
+  same_low w scan z is = k.swept_low seat v z at (sym scan ∙ is)
 
   -- a step that changes what is held, in its places, and maybe the tickets
-  quiet : (w : View) → due_of w ≤ due_of v → w.entries ≡ v.entries → w.noticed ≡ v.noticed → w.unmarked ≡ v.unmarked → w.hand ≡ v.hand → SameRoom v.held w.held → Balanced o views seat v w r r
-  quiet w due entries noticed marks hand same = record {
+  quiet : (w : View) → due_of w ≤ due_of v → w.entries ≡ v.entries → w.noticed ≡ v.noticed → w.unmarked ≡ v.unmarked → w.hand ≡ v.hand → w.scan ≡ v.scan → SameRoom v.held w.held → Balanced o views seat v w r r
+  quiet w due entries noticed marks hand scan same = record {
     entries = omega arith;
     entries_short = (let a = ap (λ (l : List Entry). length l) entries in omega arith);
     notices = (let a = ap (λ n. length n.by_right) noticed in omega arith);
@@ -185,10 +129,10 @@ module _ (o : Opening) (views : List View) (seat : ℕ) (v : View) (r : Room) (a
     seats = refl;
     others = λ j ne. refl;
     free = same_free w same;
-    held = same_held w same;
     spares = refl;
     spare = same_spare w (same_hand v.hand w.hand hand);
-    in_hand = same_stores w (same_hand v.hand w.hand hand);
+    swept = same_swept r w scan refl;
+    swept_low = same_low w scan;
   }
 
   pub room-draw : (t : ℕ) → MayDraw v → HasRoom o (set views seat (after_draw v t)) r
@@ -196,11 +140,11 @@ module _ (o : Opening) (views : List View) (seat : ℕ) (v : View) (r : Room) (a
       let a : drawn_for v.held ≡ 0 = ap (λ m. drawn_for m) d.1.holds ∙ ap (λ (m : Option ℕ). bit_of (is_some m)) d.1.undrawn in
       let b : drawn_for (with_ticket v.held t) ≡ 1 = ap (λ m. drawn_for m) (with_ticket-some v.held d.0 t d.1.holds) in
       let c = d.1.leave in
-      room-kept o views seat v (after_draw v t) r r at k (quiet (after_draw v t) (omega arith) refl refl refl refl (same_room-ticket v.held t))
+      room-kept o views seat v (after_draw v t) r r at k (quiet (after_draw v t) (omega arith) refl refl refl refl refl (same_room-ticket v.held t))
 
   pub room-load : (cell x : ℕ) → HasRoom o (set views seat (after_load v cell x)) r
   room-load cell x = room-kept o views seat v (after_load v cell x) r r at k
-      (quiet (after_load v cell x) (let a = drawn_for-load v.held cell x in omega arith) refl refl refl refl (same_room-load v.held cell x))
+      (quiet (after_load v cell x) (let a = drawn_for-load v.held cell x in omega arith) refl refl refl refl refl (same_room-load v.held cell x))
 
   -- ---- take
 
@@ -209,15 +153,6 @@ module _ (o : Opening) (views : List View) (seat : ℕ) (v : View) (r : Room) (a
     by_bit : (b : Bool) → drawn_for (cond b (Some (newly_held v.cells page found)) None) ≡ 0
     by_bit true = refl
     by_bit false = refl
-
-  take_held : (page : PageNo) (found : ℕ) → v.cells ≡ o.cells → (h : Held) → held_after_take v.cells page found ≡ Some h → IsHeldRoom o.cells h
-  take_held page found size = by_bit (eqb (taken_bit found) 0) where
-    by_bit : (b : Bool) (h : Held) → cond b (Some (newly_held v.cells page found)) None ≡ Some h → IsHeldRoom o.cells h
-    by_bit true h e = let q = same_Some (newly_held v.cells page found) h e in record {
-      loads = ap (λ (x : Held). length x.loads) (sym q) ∙ length-replicate v.cells None ∙ size;
-      stores = ap (λ (x : Held). length x.stores) (sym q) ∙ length-replicate v.cells None ∙ size;
-    }
-    by_bit false h e = absurd (none-some h e)
 
   noticed_more : (page : PageNo) (found : ℕ) → length (after_take OneOwner v page found).noticed.by_right ≡ length v.noticed.by_right + right_to page.0 v
   noticed_more page found = by_bit (get_or v.mover page.0 false) refl where
@@ -243,10 +178,10 @@ module _ (o : Opening) (views : List View) (seat : ℕ) (v : View) (r : Room) (a
         free = λ none. subst (λ (m : Option CellRoom). IsSomeAnd m (IsCellRoom o.cells))
             (sym (get_or-set_same r.cells seat new None in_cells ∙ kept none ∙ lent ∙ get_or_default r.cells seat old None in_cells))
             (k.free seat v at may.holds_none);
-        held = λ h holds. take_held page found may.seated.cells h (sym (ap (λ (x : View). x.held) is) ∙ holds);
         spares = refl;
         spare = same_spare w (same_hand v.hand w.hand (ap (λ (x : View). x.hand) is));
-        in_hand = same_stores w (same_hand v.hand w.hand (ap (λ (x : View). x.hand) is));
+        swept = same_swept (record r { notices = notices; cells = set r.cells seat new }) w (ap (λ (x : View). x.scan) is) refl;
+        swept_low = same_low w (ap (λ (x : View). x.scan) is);
       }) where
         in_cells : seat < length r.cells
         in_cells = let a = within views seat v at in let b = k.seats in omega arith
@@ -274,9 +209,9 @@ module _ (o : Opening) (views : List View) (seat : ℕ) (v : View) (r : Room) (a
       → length new + times_unmarked f w ≡ length node + times_unmarked f v
       → ((g : ℕ) → g ≢ f → times_unmarked g w ≡ times_unmarked g v)
       → length new + length w.unmarked ≡ length node + length v.unmarked
-      → due_of w ≤ due_of v → w.entries ≡ v.entries → w.noticed ≡ v.noticed → SameHand v.hand w.hand → SameRoom v.held w.held
+      → due_of w ≤ due_of v → w.entries ≡ v.entries → w.noticed ≡ v.noticed → w.scan ≡ v.scan → SameHand v.hand w.hand → SameRoom v.held w.held
       → HasRoom o (set views seat w) (record r { unmarked = set r.unmarked f new })
-  marking f node new w lt lent same other all due entries noticed hand room =
+  marking f node new w lt lent same other all due entries noticed scan hand room =
       room-kept o views seat v w r (record r { unmarked = set r.unmarked f new }) at k (record {
         entries = omega arith;
         entries_short = (let a = ap (λ (l : List Entry). length l) entries in omega arith);
@@ -288,10 +223,10 @@ module _ (o : Opening) (views : List View) (seat : ℕ) (v : View) (r : Room) (a
         seats = refl;
         others = λ j ne. refl;
         free = same_free w room;
-        held = same_held w room;
         spares = refl;
         spare = same_spare w hand;
-        in_hand = same_stores w hand;
+        swept = same_swept (record r { unmarked = set r.unmarked f new }) w scan refl;
+        swept_low = same_low w scan;
       })
 
   pub room-store : (frame : FrameNo) (cell x : ℕ) (node new : List FrameNo) (w : View) → frame.0 < o.frames → node ≡ get_or r.unmarked frame.0 node
@@ -306,7 +241,8 @@ module _ (o : Opening) (views : List View) (seat : ℕ) (v : View) (r : Room) (a
       (let a = ap due_of is in let b = drawn_for-store v.held frame.0 cell x in omega arith)
       (ap (λ (y : View). y.entries) is)
       (ap (λ (y : View). y.noticed) is)
-      (subst (λ (l : List (Option HandFrame)). SameHand v.hand l) (sym (ap (λ (y : View). y.hand) is)) (record { times = times-store v.hand frame.0 cell x; stores = stores-store v.hand frame.0 cell x }))
+      (ap (λ (y : View). y.scan) is)
+      (subst (λ (l : List (Option HandFrame)). SameHand v.hand l) (sym (ap (λ (y : View). y.hand) is)) (same_hand-store v.hand frame.0 cell x))
       (subst (λ (m : Option Held). SameRoom v.held m) (sym (ap (λ (y : View). y.held) is)) (same_room-store v.held frame.0 cell x))
 
   pub room-mark : (frame : FrameNo) (node new : List FrameNo) (w : View) → frame.0 < o.frames → node ≡ get_or r.unmarked frame.0 node
@@ -322,8 +258,9 @@ module _ (o : Opening) (views : List View) (seat : ℕ) (v : View) (r : Room) (a
       (let a = ap due_of is in omega arith)
       (ap (λ (y : View). y.entries) is)
       (ap (λ (y : View). y.noticed) is)
+      (ap (λ (y : View). y.scan) is)
       (same_hand v.hand w.hand (ap (λ (y : View). y.hand) is))
-      (subst (λ (m : Option Held). SameRoom v.held m) (sym (ap (λ (y : View). y.held) is)) (record { free = λ e. e; held = λ h e. (h, e, refl, refl) }))
+      (subst (λ (m : Option Held). SameRoom v.held m) (sym (ap (λ (y : View). y.held) is)) (same_room-refl v.held))
 
   -- ---- release
 
@@ -336,16 +273,16 @@ module _ (o : Opening) (views : List View) (seat : ℕ) (v : View) (r : Room) (a
   released_due (Some d) left new old may sum = let a = due_drawn d may.1 in
       let b = length-append v.entries (entry_of v d ∷ []) in omega arith
 
-  released_same : (done : Option CallDone) → (after_release v done).held ≡ None × ((after_release v done).noticed ≡ v.noticed) × ((after_release v done).unmarked ≡ v.unmarked) × ((after_release v done).hand ≡ v.hand)
-  released_same None = (refl, refl, refl, refl)
-  released_same (Some d) = (refl, refl, refl, refl)
+  released_same : (done : Option CallDone) → (after_release v done).held ≡ None × ((after_release v done).noticed ≡ v.noticed) × ((after_release v done).unmarked ≡ v.unmarked) × ((after_release v done).hand ≡ v.hand) × ((after_release v done).scan ≡ v.scan)
+  released_same None = (refl, refl, refl, refl, refl)
+  released_same (Some d) = (refl, refl, refl, refl, refl)
 
-  pub room-release : (done : Option CallDone) (w : View) (entries : List Entry) (cells : Option CellRoom) → MayRelease o v done
+  pub room-release : (done : Option CallDone) (w : View) (entries : List Entry) (cells : Option CellRoom) → Seats o views → MayRelease o v done
       → w ≡ after_release v done
       → length entries + length w.entries ≡ length r.entries + length v.entries
       → IsSomeAnd v.held (λ h. cells ≡ Some (record { loads = h.loads; stores = h.stores }))
       → HasRoom o (set views seat w) (record r { entries = entries; cells = set r.cells seat cells })
-  room-release done w entries cells may is sum back = let same = released_same done in
+  room-release done w entries cells seats may is sum back = let same = released_same done in
       room-kept o views seat v w r (record r { entries = entries; cells = set r.cells seat cells }) at k (record {
         entries = (let a = ap due_of is in let c = ap (λ (y : View). length y.entries) is in let b = released_due done v.left (length entries) (length r.entries) may (omega arith) in omega arith);
         entries_short = omega arith;
@@ -357,12 +294,12 @@ module _ (o : Opening) (views : List View) (seat : ℕ) (v : View) (r : Room) (a
         seats = length-set r.cells seat cells;
         others = λ j ne. get_or-set_other r.cells seat j cells None ne;
         free = λ none. let q = for_some v.held (λ h. cells ≡ Some (record { loads = h.loads; stores = h.stores })) back in
-            let p = k.held seat v q.0 at q.1 in
+            let p = held_room o views seats seat v at q.0 q.1 in
             subst (λ (m : Option CellRoom). IsSomeAnd m (IsCellRoom o.cells))
             (sym (get_or-set_same r.cells seat cells None (let a = within views seat v at in let b = k.seats in omega arith) ∙ q.2))
             (record { loads = p.loads; stores = p.stores });
-        held = λ h holds. absurd (none-some h (sym (ap (λ (y : View). y.held) is ∙ same.0) ∙ holds));
         spares = refl;
         spare = same_spare w (same_hand v.hand w.hand (ap (λ (y : View). y.hand) is ∙ same.3));
-        in_hand = same_stores w (same_hand v.hand w.hand (ap (λ (y : View). y.hand) is ∙ same.3));
+        swept = same_swept (record r { entries = entries; cells = set r.cells seat cells }) w (ap (λ (y : View). y.scan) is ∙ same.4) refl;
+        swept_low = same_low w (ap (λ (y : View). y.scan) is ∙ same.4);
       })

@@ -9,6 +9,7 @@ use Rattle.core_state.specs.Sound.{Sound}
 use Rattle.core_state.specs.Steps.{Allowed}
 use Rattle.core_state.specs.Stepped.{words_after, views_after}
 use Rattle.core_state.proofs.WordsAt.{shaped-set}
+use Rattle.core_state.proofs.SeatSteps.{steps_keep_seats}
 use Rattle.core_state.proofs.TurnSteps.{steps_keep_turn}
 use Rattle.core_state.proofs.FrameSteps.{steps_keep_frames}
 use Rattle.core_state.proofs.TicketSteps.{steps_keep_tickets}
@@ -21,6 +22,7 @@ pub steps_keep_sound : (k : Keeper) (o : Opening) (words : List ℕ) (views : Li
     → Sound o (words_after o words v step) (views_after k o words views seat v step)
 steps_keep_sound k o words views seat v step at s may = record {
   shaped = shaped-set o words _ _ s.shaped;
+  seats = steps_keep_seats k o words views seat v step at s.seats may;
   turn = steps_keep_turn k o words views seat v step at s.shaped s.turn may;
   frames = steps_keep_frames k o words views seat v step at s.shaped s.turn s.frames may;
   tickets = steps_keep_tickets k o words views seat v step at s.shaped s.tickets may;

@@ -2,6 +2,7 @@
 use Rattle.std.specs.Prelude.{ℕ, ◌+◌, ◌-◌, ◌*◌, Bool, true, List, [], ◌∷◌, ◌++◌, replicate, slice_set, sum, Option, Some, None}
 use Rattle.evac_model.specs.declared.names.FrameNo.{FrameNo}
 use Rattle.evac_model.specs.declared.scenario.StartPage.{StartPage}
+use Rattle.evac_model.specs.declared.space.SpaceAction.{SpaceAction}
 use Rattle.evac_model.specs.Geometry.{Sizes, frame_count}
 use Rattle.evac_model.specs.Page.{Page, new_page}
 use Rattle.evac_words.specs.Table.{entry_index, table_length}
@@ -11,6 +12,7 @@ use Rattle.core_state.specs.declared.room.CellRoom.{CellRoom}
 use Rattle.core_state.specs.declared.scan.Scan.{Scan}
 use Rattle.core_state.specs.declared.view.View.{View}
 use Rattle.core_state.specs.Words.{mapped_word}
+use Rattle.core_state.specs.Copies.{nothing_copied}
 use Rattle.core_state.specs.Views.{spent}
 use Rattle.core_state.specs.Steps.{nothing_known}
 
@@ -81,18 +83,18 @@ owner_views s owner [] = []
 owner_views s owner (n ∷ ns) = owner_view s owner n ∷ owner_views s (owner + 1) ns
 
 abbrev pub new_scan : Sizes → Scan
-new_scan s = record { at = None; image = replicate (frame_count s) []; swept = []; passes = 0 }
+new_scan s = record { at = None; image = replicate (frame_count s) (nothing_copied s.cells); swept = []; passes = 0 }
 
 abbrev pub scanner_view : Sizes → View
 scanner_view s = new_view s None 0 [] (empty_places (frame_count s)) (Some (new_scan s))
 
--- a seat that keeps frames
-abbrev pub keeper_view : Sizes → List (Option HandFrame) → View
-keeper_view s hand = new_view s None 0 [] hand None
+-- a seat that keeps frames, and the journal of the frame space where it keeps the free ones
+abbrev pub keeper_view : Sizes → Option (List SpaceAction) → List (Option HandFrame) → View
+keeper_view s journal hand = record (new_view s None 0 [] hand None) { actions = record spent.actions { journal = journal } }
 
 -- who keeps frames at the start
 abbrev pub keeper_views : Sizes → List StartPage → List View
-keeper_views s start = keeper_view s (free_hand s start) ∷ keeper_view s (unplugged_hand s) ∷ []
+keeper_views s start = keeper_view s (Some []) (free_hand s start) ∷ keeper_view s None (unplugged_hand s) ∷ []
 
 -- the seats in order: the driver, the owners, the scanner, and who keeps the free and the unplugged frames
 abbrev pub opening_views : Sizes → List StartPage → List ℕ → List View

@@ -8,14 +8,16 @@ use Rattle.core_state.specs.declared.opening.Opening.{Opening}
 use Rattle.core_state.specs.declared.scan.Scan.{Scan}
 use Rattle.core_state.specs.declared.view.View.{View}
 use Rattle.core_state.specs.Words.{next_ticket_of, entry_word_of, dirty_word_of}
-use Rattle.core_state.specs.Views.{Has, movers, hand_frame, times_in_hands, scans}
+use Rattle.core_state.specs.Views.{Has, IsSeated, movers, hand_frame, times_in_hands, keeps_journal, scans}
 use Rattle.core_state.specs.Parts.{Shaped, all_left}
 use Rattle.core_state.specs.Pages.{page_cells, FreeShows}
 use Rattle.core_state.specs.Frames.{times_mapped}
-use Rattle.core_state.specs.Image.{copy_of}
+use Rattle.core_state.specs.Copies.{nothing_copied}
+use Rattle.core_state.specs.Image.{copy_at}
 
--- a seat that has done nothing; it may have tickets, frames in hand and a right to move
+-- a seat of the machine that has done nothing; it may have tickets, frames in hand and a right to move
 pub record IsNew (o : Opening) (v : View) : Type 0 where
+  pub seated : IsSeated o v
   pub held : v.held ≡ None
   pub entries : v.entries ≡ []
   pub by_right : v.noticed.by_right ≡ []
@@ -24,7 +26,8 @@ pub record IsNew (o : Opening) (v : View) : Type 0 where
   pub seen : v.seen ≡ 0
   pub caller : 0 < v.left → IsSome v.caller
   pub hand : (frame : ℕ) (x : HandFrame) → hand_frame v frame ≡ Some x → x.stores ≡ replicate o.cells None
-  pub scan : (s : Scan) (frame : ℕ) → v.scan ≡ Some s → copy_of s frame ≡ []
+  pub copies : (s : Scan) (frame : ℕ) → v.scan ≡ Some s → frame < o.frames → copy_at s frame ≡ nothing_copied o.cells
+  pub swept : (s : Scan) → v.scan ≡ Some s → s.swept ≡ []
 
 pub record Opens (o : Opening) (words : List ℕ) (views : List View) : Type 0 where
   pub shaped : Shaped o words
@@ -41,4 +44,5 @@ pub record Opens (o : Opening) (words : List ℕ) (views : List View) : Type 0 w
   pub no_other : (frame : ℕ) → o.frames ≤ frame → times_mapped o frame words + times_in_hands frame views ≡ 0
   pub one_mover : (page : ℕ) → movers page views ≤ 1
   pub one_scanner : sum_by scans views ≤ 1
+  pub one_journal : sum_by keeps_journal views ≤ 1
   pub new : (i : ℕ) (v : View) → Has views i v → IsNew o v

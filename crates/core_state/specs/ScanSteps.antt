@@ -12,7 +12,8 @@ use Rattle.core_state.specs.declared.step.ScanStep.{ScanStep}
 use Rattle.core_state.specs.declared.step.ScanStep.TheVariants.{Sweep, Copy}
 use Rattle.core_state.specs.declared.view.View.{View}
 use Rattle.core_state.specs.Views.{IsSeated}
-use Rattle.core_state.specs.Image.{copy_of}
+use Rattle.core_state.specs.Copies.{Copied}
+use Rattle.core_state.specs.Image.{copy_at, copy_of}
 use Rattle.core_state.specs.Steps.{counted}
 
 -- A sweep of a frame that isn't above the one swept last begins a new pass, and so does the first one.
@@ -21,8 +22,8 @@ begins_pass None frame = true
 begins_pass (Some at) frame = nat_le frame at.0
 
 -- the frame's copy begins anew where its mark was set or the frame is new
-abbrev pub image_after_sweep : Scan → ℕ → ℕ → Bool → List (List ℕ)
-image_after_sweep s frame found fresh = if (found == 1) || fresh then slice_set s.image frame [] else s.image
+abbrev pub image_after_sweep : Scan → ℕ → ℕ → Bool → List Copied
+image_after_sweep s frame found fresh = if (found == 1) || fresh then slice_set s.image frame (record (copy_at s frame) { cells = [] }) else s.image
 
 abbrev pub swept : FrameNo → ℕ → Bool → Swept
 swept frame found fresh = record { frame = frame; mark = found; fresh = fresh }
@@ -38,7 +39,7 @@ after_sweep k s frame fresh found = record {
 -- the copy of the frame swept last has one cell more
 abbrev pub with_cell : Scan → Option FrameNo → ℕ → Scan
 with_cell s None found = s
-with_cell s (Some at) found = record s { image = slice_set s.image at.0 (copy_of s at.0 ++ found ∷ []) }
+with_cell s (Some at) found = record s { image = slice_set s.image at.0 (record (copy_at s at.0) { cells = copy_of s at.0 ++ found ∷ [] }) }
 
 abbrev pub scan_after : Keeper → Option Scan → ScanStep → ℕ → Option Scan
 scan_after k None step found = None

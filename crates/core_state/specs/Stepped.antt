@@ -37,11 +37,15 @@ snapshot_after_move k s seat step = record {
   views = slice_set s.views seat (view_after_move k (view_of s.views seat) step);
 }
 
+-- the word that a step of the scanner finds
+abbrev pub scan_found : Opening → List ℕ → View → ScanStep → ℕ
+scan_found o words v step = slice_index words (scan_index o v.scan step)
+
 abbrev pub words_after_scan : Opening → List ℕ → View → ScanStep → List ℕ
-words_after_scan o words v step = slice_set words (scan_index o v.scan step) (word_after_scan step (slice_index words (scan_index o v.scan step)))
+words_after_scan o words v step = slice_set words (scan_index o v.scan step) (word_after_scan step (scan_found o words v step))
 
 abbrev pub snapshot_after_scan : Keeper → Opening → Snapshot → ℕ → ScanStep → Snapshot
 snapshot_after_scan k o s seat step = record {
   words = words_after_scan o s.words (view_of s.views seat) step;
-  views = slice_set s.views seat (view_after_scan k (view_of s.views seat) step (slice_index s.words (scan_index o (view_of s.views seat).scan step)));
+  views = slice_set s.views seat (view_after_scan k (view_of s.views seat) step (scan_found o s.words (view_of s.views seat) step));
 }

@@ -26,7 +26,7 @@ spent = record {
   left = 0;
   seen = 0;
   mover = [];
-  actions = record { made = []; leases_refused = []; isolations_refused = []; marked = false; known = 0; journal = []; under_way = false };
+  actions = record { made = []; leases_refused = []; isolations_refused = []; marked = false; known = 0; journal = None; under_way = false };
   scan = None;
 }
 
@@ -84,6 +84,10 @@ maps_to frame w = if mapped_bit w == 1 then (if frame_of w == frame then 1 else 
 -- the frame is in the view's hand, or is that of the page that it holds
 abbrev pub Owns : View → ℕ → Type 0
 Owns v frame = (0 < times_in_hand frame v) ⊎ IsSomeAnd v.held (λ h. maps_to frame h.word ≡ 1)
+
+-- one where the view has the journal of the frame space, as the one that keeps the free frames has, else 0
+abbrev pub keeps_journal : View → ℕ
+keeps_journal v = bit_of (is_some v.actions.journal)
 
 -- one where the view is the scanner's, else 0
 abbrev pub scans : View → ℕ

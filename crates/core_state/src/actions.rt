@@ -1,5 +1,6 @@
 //! What a seat knows of the frame space, over shared words. In a core the space stands beside the
-//! views, and this part is empty.
+//! views, and this part is empty, but for the journal of the seat that keeps the free frames, which is
+//! there without actions.
 
 use evac_model::{FrameNo, Kind, PageNo, SpaceAction};
 use std::alloc::Global;
@@ -57,8 +58,8 @@ pub struct Actions {
     pub marked: bool,
     /// The length of the longest space journal that it knows.
     pub known: u64,
-    /// The whole journal, in the seat that has the free frames.
-    pub journal: LinkedList<SpaceAction, Global>,
+    /// The whole journal, in the seat that keeps the free frames; none in any other.
+    pub journal: Option<LinkedList<SpaceAction, Global>>,
     /// Whether a piece is under way, in the seat that has the free frames.
     pub under_way: bool,
 }

@@ -19,7 +19,7 @@ use evac_model::{Call, FrameNo, PageNo, Reply};
 use evac_words::{frame_of, is_mapped, is_moving, pins_of};
 
 /// Whether the view knows the number of cells, and has a place for each frame.
-fn is_seated(o: &Opening, v: &View) -> bool
+pub fn is_seated(o: &Opening, v: &View) -> bool
     ensures { IsTrue result ↔ IsSeated o.now v.now }
 {
     let has_image = match &v.scan {

@@ -27,7 +27,7 @@ pub(crate) struct Kept {
 }
 
 /// The word at an index.
-fn word_at(words: &WordList, index: usize) -> u64
+pub(crate) fn word_at(words: &WordList, index: usize) -> u64
     requires { index < length words.now }
     ensures { result ≡ slice_index words.now index }
 {
@@ -256,17 +256,17 @@ impl Kept {
     }
 
     /// Lets the held page go.
-    pub(crate) fn release(&mut self, seat: usize, done: Option<CallDone>)
+    pub(crate) fn release(&mut self, seat: usize, done: &Option<CallDone>)
         requires seat { seat < length self.old.snapshot.views }
         requires sound { Sound self.old.opening self.old.snapshot.words self.old.snapshot.views }
         requires room { HasRoom self.old.opening self.old.snapshot.views self.old.room }
-        requires may { MayRelease self.old.opening (view_of self.old.snapshot.views seat) done }
-        ensures snapshot { self.new.snapshot ≡ snapshot_after OneOwner self.old.opening self.old.snapshot seat (Step.Release done) }
+        requires may { MayRelease self.old.opening (view_of self.old.snapshot.views seat) done.now }
+        ensures snapshot { self.new.snapshot ≡ snapshot_after OneOwner self.old.opening self.old.snapshot seat (Step.Release done.now) }
         ensures opening { self.new.opening ≡ self.old.opening }
         ensures room { HasRoom self.new.opening self.new.snapshot.views self.new.room }
         ensures notices { self.new.room.notices ≡ self.old.room.notices }
     {
-        let (index, word) = self.word_released(seat, &done);
+        let (index, word) = self.word_released(seat, done);
         write_word(&mut self.snapshot.words, index, word);
         let view = self.snapshot.views.item_mut(seat);
         let cells = self.room.cells.item_mut(seat);
@@ -274,28 +274,28 @@ impl Kept {
     }
 
     /// Makes a step of a call.
-    pub(crate) fn step(&mut self, seat: usize, step: Step) -> Seen
+    pub(crate) fn step(&mut self, seat: usize, step: &Step) -> Seen
         requires seat { seat < length self.old.snapshot.views }
         requires sound { Sound self.old.opening self.old.snapshot.words self.old.snapshot.views }
         requires room { HasRoom self.old.opening self.old.snapshot.views self.old.room }
-        requires notice { notices_of (view_of self.old.snapshot.views seat) step ≤ length self.old.room.notices }
-        requires may { Allowed self.old.opening (view_of self.old.snapshot.views seat) step }
-        ensures seen { result ≡ seen_by step (word_found self.old.opening self.old.snapshot.words (view_of self.old.snapshot.views seat) step) }
-        ensures snapshot { self.new.snapshot ≡ snapshot_after OneOwner self.old.opening self.old.snapshot seat step }
+        requires notice { notices_of (view_of self.old.snapshot.views seat) step.now ≤ length self.old.room.notices }
+        requires may { Allowed self.old.opening (view_of self.old.snapshot.views seat) step.now }
+        ensures seen { result ≡ seen_by step.now (word_found self.old.opening self.old.snapshot.words (view_of self.old.snapshot.views seat) step.now) }
+        ensures snapshot { self.new.snapshot ≡ snapshot_after OneOwner self.old.opening self.old.snapshot seat step.now }
         ensures opening { self.new.opening ≡ self.old.opening }
         ensures room { HasRoom self.new.opening self.new.snapshot.views self.new.room }
-        ensures notices { length self.new.room.notices + notices_of (view_of self.old.snapshot.views seat) step ≡ length self.old.room.notices }
+        ensures notices { length self.new.room.notices + notices_of (view_of self.old.snapshot.views seat) step.now ≡ length self.old.room.notices }
     {
         match step {
-            Step::Take { page } => Seen::Word(self.take(seat, page)),
+            Step::Take { page } => Seen::Word(self.take(seat, *page)),
             Step::Draw => Seen::Word(self.draw(seat)),
-            Step::Load { cell } => Seen::Word(self.load(seat, cell)),
+            Step::Load { cell } => Seen::Word(self.load(seat, *cell)),
             Step::Store { frame, cell, value } => {
-                self.store(seat, frame, cell, value);
+                self.store(seat, *frame, *cell, *value);
                 Seen::Nothing
             }
             Step::Mark { frame } => {
-                self.mark(seat, frame);
+                self.mark(seat, *frame);
                 Seen::Nothing
             }
             Step::Release { done } => {

@@ -29,6 +29,13 @@ impl KnownCells {
         })
     }
 
+    /// The number of cells.
+    pub fn len(&self) -> usize
+        ensures { result ≡ length self.now }
+    {
+        self.items.len()
+    }
+
     /// What is known of a cell; nothing of one that isn't there.
     pub fn at(&self, cell: u32) -> Option<u64>
         ensures { result ≡ slice_index_or self.now cell None }

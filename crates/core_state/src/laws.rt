@@ -9,6 +9,7 @@ ghost use Rattle.core_state.specs.declared.opening.Opening.{Opening};
 ghost use Rattle.core_state.specs.declared.step.Step.{Step};
 ghost use Rattle.core_state.specs.declared.view.View.{View};
 ghost use Rattle.core_state.specs.Parts.{Shaped, Turn, Tickets, Bounds};
+ghost use Rattle.core_state.specs.Seats.{Seats};
 ghost use Rattle.core_state.specs.Frames.{Frames};
 ghost use Rattle.core_state.specs.Words.{entry_word_of};
 ghost use Rattle.core_state.specs.Pages.{FreeShows, Pages};
@@ -63,6 +64,12 @@ pub fn steps_keep_frames()
 /// of a call that is allowed keeps this.
 pub fn steps_keep_image()
     ensures { (k : Keeper) (o : Opening) (words : List ℕ) (views : List View) (seat : ℕ) (v : View) (step : Step) → Has views seat v → Shaped o words → Turn o words views → Frames o words views → Image o words views → Allowed o v step → Image o (words_after o words v step) (views_after k o words views seat v step) }
+{}
+
+/// Each view is that of a seat of the machine, with its places, or the one that a joined seat is left with,
+/// and one at most has the journal of the frame space: each step of a call that is allowed keeps this.
+pub fn steps_keep_seats()
+    ensures { (k : Keeper) (o : Opening) (words : List ℕ) (views : List View) (seat : ℕ) (v : View) (step : Step) → Has views seat v → Seats o views → Allowed o v step → Seats o (views_after k o words views seat v step) }
 {}
 
 /// Each step of a call that is allowed keeps a sound snapshot sound.

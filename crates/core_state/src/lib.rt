@@ -14,9 +14,12 @@ mod held_word;
 mod keeper;
 mod kept;
 mod kept_moves;
+mod kept_scans;
 mod known_cells;
 mod laws;
 mod laws_allowed;
+mod laws_noticed;
+mod laws_views;
 mod machine;
 mod move_words;
 mod noticed;
@@ -33,19 +36,27 @@ mod snapshot;
 mod step;
 mod view;
 mod view_moves;
+mod view_scans;
 mod view_steps;
 
 pub use actions::{Actions, IsolationRefusal, LeaseRefusal, PlacedAction};
+pub use allowed::is_seated;
 pub use hand::{Aim, Hand, HandFrame};
 pub use held::{Change, Held};
 pub use keeper::Keeper;
 pub use known_cells::KnownCells;
 pub use laws::{
     histories_are_legal, openings_are_sound, steps_keep_bounds, steps_keep_frames,
-    steps_keep_image, steps_keep_noticed_words, steps_keep_pages, steps_keep_sound,
-    steps_keep_tickets, steps_keep_turn, words_show_the_history,
+    steps_keep_image, steps_keep_noticed_words, steps_keep_pages, steps_keep_seats,
+    steps_keep_sound, steps_keep_tickets, steps_keep_turn, words_show_the_history,
 };
 pub use laws_allowed::{answered_is_settled, untouched_is_left_same};
+pub use laws_noticed::{noticed_words_tell_the_history, taken_words_are_followed};
+pub use laws_views::{
+    hand_overs_rearrange, joins_rearrange, rearranged_views_stay_sound,
+    reordered_views_are_rearranged, seats_can_be_joined, seats_can_be_split, splits_rearrange,
+    views_rearranged_twice_are_rearranged,
+};
 pub use machine::Core;
 pub use noticed::{Notice, Noticed};
 pub use opening::{OpenPage, OpenPageList, Opening};
@@ -54,8 +65,3 @@ pub use seen::Seen;
 pub use snapshot::{Snapshot, ViewList, WordList};
 pub use step::{CallDone, MoveStep, ScanStep, Step};
 pub use view::{MoveRight, View};
-
-#[cfg(test)]
-mod allowed_tests;
-#[cfg(test)]
-mod tests;

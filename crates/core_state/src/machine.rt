@@ -5,7 +5,7 @@ use crate::kept::Kept;
 use crate::opening::Opening;
 use crate::seen::Seen;
 use crate::snapshot::Snapshot;
-use crate::step::{MoveStep, Step};
+use crate::step::{MoveStep, ScanStep, Step};
 use evac_model::{FrameNo, Geometry, OutOfMemory, StartPage};
 use std::alloc::Global;
 use std::marker::Model;
@@ -41,11 +41,13 @@ impl Core {
     ghost use Rattle.core_state.specs.Opens.{Opens};
     ghost use Rattle.core_state.specs.Room.{IsSmall};
     ghost use Rattle.core_state.specs.declared.keeper.Keeper.TheVariants.{OneOwner};
+    ghost use Rattle.core_state.specs.declared.seen.Seen.{Seen};
     ghost use Rattle.core_state.specs.CoreState.{CoreState, IsSound, seen_by, notices_of};
     ghost use Rattle.core_state.specs.Views.{view_of};
     ghost use Rattle.core_state.specs.Steps.{Allowed};
     ghost use Rattle.core_state.specs.MoveSteps.{AllowedMove};
-    ghost use Rattle.core_state.specs.Stepped.{snapshot_after, snapshot_after_move, word_found};
+    ghost use Rattle.core_state.specs.ScanSteps.{AllowedScan};
+    ghost use Rattle.core_state.specs.Stepped.{snapshot_after, snapshot_after_move, snapshot_after_scan, scan_found, word_found};
     ghost use Rattle.core_state.specs.HandOvers.{MayHandOver, views_after_hand_over};
 
     /// A core of a machine, whose start pages are mapped. `budgets` has the number of tickets of each
@@ -91,7 +93,7 @@ impl Core {
         ensures opening { self.new.opening ≡ self.old.opening }
         ensures room { self.new.room + notices_of (view_of self.old.snapshot.views seat) step ≡ self.old.room }
     {
-        self.kept.step(seat as usize, step)
+        self.kept.step(seat as usize, &step)
     }
 
     /// Makes a step of a seat on the mapping of the page that it holds. The step is allowed. It takes no
@@ -107,6 +109,21 @@ impl Core {
         ensures room { self.new.room ≡ self.old.room }
     {
         self.kept.move_step(seat as usize, step);
+    }
+
+    /// Makes a step of the scanner's seat, and gives the dirty word that a sweep found, or the number that a
+    /// copy found. The step is allowed. It takes no memory, and its time doesn't grow with anything. No
+    /// clause says that the words and the views stay sound: that is a law of a crate above.
+    pub fn make_scan(&mut self, seat: u32, step: ScanStep) -> Seen
+        requires seat { seat < length self.old.snapshot.views }
+        requires sound { IsSound self.old }
+        requires may { AllowedScan self.old.opening (view_of self.old.snapshot.views seat) step }
+        ensures seen { result ≡ Seen.Word (scan_found self.old.opening self.old.snapshot.words (view_of self.old.snapshot.views seat) step) }
+        ensures snapshot { self.new.snapshot ≡ snapshot_after_scan OneOwner self.old.opening self.old.snapshot seat step }
+        ensures opening { self.new.opening ≡ self.old.opening }
+        ensures room { self.new.room ≡ self.old.room }
+    {
+        Seen::Word(self.kept.scan_step(seat as usize, step))
     }
 
     /// Hands `n` frames over, from the frame `first` on: they leave the hand of the seat `from` for that

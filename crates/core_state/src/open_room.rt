@@ -8,6 +8,7 @@ ghost use Rattle.core_state.specs.CoreOpens.{unused_node, unused_cells, spare_at
 use crate::known_cells::KnownCells;
 use crate::pool::nodes;
 use crate::room::{CellRoom, Room};
+use crate::scan::Swept;
 use evac_model::{Call, Entry, FrameNo, Geometry, Listed, PageNo, Reply, StartPage};
 use std::alloc::{AllocError, Global};
 use std::collections::LinkedList;
@@ -20,6 +21,13 @@ const NO_ENTRY: Entry = Entry {
     page: PageNo(0),
     call: Call::Free,
     reply: Reply::Done,
+};
+
+/// What a node for a swept frame has before it is used.
+const NOT_SWEPT: Swept = Swept {
+    frame: FrameNo(0),
+    mark: 0,
+    fresh: false,
 };
 
 /// A node for each frame.
@@ -95,11 +103,13 @@ pub(crate) fn open_room(
     ensures unmarked { IfOk result (λ r. r.unmarked ≡ replicate (frame_count g.now) unused_node) }
     ensures cells { IfOk result (λ r. r.cells ≡ replicate seats (Some (unused_cells g.now.cells))) }
     ensures spare { IfOk result (λ r. r.spare ≡ spare_at_start g.now start.now) }
+    ensures swept { IfOk result (λ r. length r.swept ≡ frame_count g.now) }
 {
     let entries = nodes(alloc, budget, NO_ENTRY)?;
     let unmarked = open_nodes(alloc, g.frames())?;
     let cells = open_cells(alloc, seats, g.cells())?;
     let spare = open_spare(alloc, g, start)?;
+    let swept = nodes(alloc, u64::from(g.frames()), NOT_SWEPT)?;
     Ok(Room {
         entries,
         notices: LinkedList::new(alloc),
@@ -107,5 +117,6 @@ pub(crate) fn open_room(
         unmarked: Listed::from_vec(unmarked),
         cells: Listed::from_vec(cells),
         spare: Listed::from_vec(spare),
+        swept,
     })
 }

@@ -1,9 +1,10 @@
 //! The views of the seats when a core is opened.
 
-ghost use Rattle.std.specs.Prelude.{◌≡◌, ◌+◌, ◌<◌, ◌≤◌, ◌++◌, ◌∷◌, [], length, replicate, IfOk, OnOk};
+ghost use Rattle.std.specs.Prelude.{◌≡◌, ◌+◌, ◌<◌, ◌≤◌, ◌++◌, ◌∷◌, [], length, replicate, IfOk, OnOk, None, Some};
 ghost use Rattle.evac_model.specs.Geometry.{frame_count};
 ghost use Rattle.evac_model.specs.StartPages.{AreStartPages};
-ghost use Rattle.core_state.specs.CoreOpens.{driver_view, owner_view, owner_views, scanner_view, keeper_view, opening_views};
+ghost use Rattle.core_state.specs.CoreOpens.{driver_view, owner_view, owner_views, free_hand, scanner_view, keeper_view, opening_views};
+ghost use Rattle.core_state.specs.Copies.{nothing_copied};
 ghost use Rattle.core_state.specs.Views.{spent};
 
 use crate::actions::Actions;
@@ -26,14 +27,14 @@ fn no_actions(alloc: Global) -> Actions
         isolations_refused: LinkedList::new(alloc),
         marked: false,
         known: 0,
-        journal: LinkedList::new(alloc),
+        journal: None,
         under_way: false,
     }
 }
 
 /// A seat without tickets, right to move and image, that has these frames in hand.
 fn new_view(alloc: Global, g: &Geometry, hand: Vec<Option<HandFrame>>) -> View
-    ensures { result ≡ keeper_view g.now hand.items }
+    ensures { result ≡ keeper_view g.now None hand.items }
 {
     View {
         cells: g.cells(),
@@ -94,7 +95,7 @@ fn push_owners(
 
 /// Room for the copy of each frame.
 fn no_copies(alloc: Global, g: &Geometry) -> Result<Vec<FrameCopy>, AllocError>
-    ensures { IfOk result (λ v. v.items ≡ replicate (frame_count g.now) []) }
+    ensures { IfOk result (λ v. v.items ≡ replicate (frame_count g.now) (nothing_copied g.now.cells)) }
 {
     let frames = g.frames();
     let mut image = Vec::with_capacity(alloc, frames as usize)?;
@@ -119,6 +120,16 @@ fn scanner(alloc: Global, g: &Geometry) -> Result<View, AllocError>
     Ok(view)
 }
 
+/// The seat that keeps the free frames, and the journal of the frame space.
+fn free_keeper(alloc: Global, g: &Geometry, start: &[StartPage]) -> Result<View, AllocError>
+    requires { AreStartPages g.now start.now }
+    ensures { IfOk result (λ v. v ≡ keeper_view g.now (Some []) (free_hand g.now start.now)) }
+{
+    let mut view = new_view(alloc, g, open_free(alloc, g, start)?);
+    view.actions.journal = Some(LinkedList::new(alloc));
+    Ok(view)
+}
+
 /// The views of all seats, in their order.
 pub(crate) fn open_views(
     alloc: Global,
@@ -134,8 +145,7 @@ pub(crate) fn open_views(
     views.push(driver(alloc, g)?)?;
     push_owners(alloc, g, &mut views, budgets)?;
     views.push(scanner(alloc, g)?)?;
-    let free = open_free(alloc, g, start)?;
-    views.push(new_view(alloc, g, free))?;
+    views.push(free_keeper(alloc, g, start)?)?;
     let unplugged = open_unplugged(alloc, g)?;
     views.push(new_view(alloc, g, unplugged))?;
     Ok(views)

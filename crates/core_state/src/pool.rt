@@ -3,10 +3,9 @@
 ghost use Rattle.std.specs.Prelude.{◌≡◌, ◌+◌, ◌^◌, ◌<◌, ◌++◌, ◌∷◌, ◌==◌, [], not, take, drop, filter, length, IfOk};
 ghost use Rattle.std.specs.List.{count_by};
 
-use evac_model::FrameNo;
+use evac_model::{FrameNo, first_node};
 use std::alloc::{AllocError, Global};
 use std::collections::LinkedList;
-use std::mem;
 
 /// A pool of so many nodes. What they hold doesn't matter.
 pub(crate) fn nodes<T: Copy + Drop>(
@@ -21,18 +20,6 @@ pub(crate) fn nodes<T: Copy + Drop>(
         pool.push_back(item)?;
     }
     Ok(pool)
-}
-
-/// Takes the first node off a list.
-fn first_node<T: Drop>(list: &mut LinkedList<T, Global>) -> LinkedList<T, Global>
-    requires { 0 < length list.old }
-    ensures node { result ≡ take 1 list.old }
-    ensures rest { list.new ≡ drop 1 list.old }
-{
-    match list.split_off(1) {
-        Ok(rest) => mem::replace(list, rest),
-        Err(_) => unreachable!(),
-    }
 }
 
 /// Puts an item behind a list, in a node of the pool.

@@ -2,6 +2,7 @@
 
 use crate::known_cells::KnownCells;
 use crate::noticed::Notice;
+use crate::scan::Swept;
 use evac_model::{Entry, FrameNo, Listed, OutOfMemory, PageNo};
 use std::alloc::Global;
 use std::collections::LinkedList;
@@ -38,10 +39,12 @@ pub(crate) struct Room {
     pub(crate) cells: Listed<Option<CellRoom>>,
     /// For each frame the places for its cells, while no seat has it in hand.
     pub(crate) spare: Listed<Option<KnownCells>>,
+    /// A node for each frame that wasn't swept in the pass under way.
+    pub(crate) swept: LinkedList<Swept, Global>,
 }
 
 impl Room {
-    ghost use Rattle.std.specs.Prelude.{◌≡◌, ◌+◌, ◌^◌, ◌<◌, ◌≤◌, length, slice_index_or, slice_set, None, OnOk, OnErr};
+    ghost use Rattle.std.specs.Prelude.{◌≡◌, ◌+◌, ◌^◌, ◌<◌, ◌≤◌, length, slice_index_or, slice_set, None, Some, IsSome, OnOk, OnErr};
 
     /// Makes room for one more notice.
     pub(crate) fn add_notice(&mut self) -> Result<(), OutOfMemory>
@@ -59,20 +62,24 @@ impl Room {
         Ok(())
     }
 
-    /// Takes the places for the cells of a frame, where there are.
-    pub(crate) fn take_spare(&mut self, frame: FrameNo) -> Option<KnownCells>
-        requires { frame.0 < length self.old.spare }
-        ensures spare { result ≡ slice_index_or self.old.spare frame.0 None }
+    /// Takes the places for the cells of a frame, which are there.
+    pub(crate) fn take_spare(&mut self, frame: FrameNo) -> KnownCells
+        requires frame { frame.0 < length self.old.spare }
+        requires some { IsSome (slice_index_or self.old.spare frame.0 None) }
+        ensures spare { slice_index_or self.old.spare frame.0 None ≡ Some result }
         ensures room { self.new ≡ record self.old { spare = slice_set self.old.spare frame.0 None } }
     {
-        self.spare.item_mut(frame.0 as usize).take()
+        match self.spare.item_mut(frame.0 as usize).take() {
+            Some(spare) => spare,
+            None => unreachable!(),
+        }
     }
 
     /// Keeps places for the cells of a frame.
-    pub(crate) fn keep_spare(&mut self, frame: FrameNo, spare: Option<KnownCells>)
+    pub(crate) fn keep_spare(&mut self, frame: FrameNo, spare: KnownCells)
         requires { frame.0 < length self.old.spare }
-        ensures { self.new ≡ record self.old { spare = slice_set self.old.spare frame.0 spare } }
+        ensures { self.new ≡ record self.old { spare = slice_set self.old.spare frame.0 (Some spare) } }
     {
-        *self.spare.item_mut(frame.0 as usize) = spare;
+        *self.spare.item_mut(frame.0 as usize) = Some(spare);
     }
 }

@@ -67,7 +67,7 @@ impl View {
     ghost use Rattle.std.specs.Prelude.{IsSomeAnd};
     ghost use Rattle.evac_words.specs.Word.{frame_of};
     ghost use Rattle.core_state.specs.Views.{hand_frame};
-    ghost use Rattle.core_state.specs.Room.{IsHeldRoom};
+    ghost use Rattle.core_state.specs.Seats.{IsHeldRoom};
     ghost use Rattle.core_state.specs.CoreOpens.{fresh_frame};
     ghost use Rattle.core_state.specs.MoveSteps.{view_after_move};
 
@@ -89,28 +89,26 @@ impl View {
     }
 
     /// Takes a frame out of the hand, and gives the places for its cells.
-    fn let_frame(&mut self, frame: FrameNo) -> Option<KnownCells>
+    fn let_frame(&mut self, frame: FrameNo) -> KnownCells
         requires hand { frame.0 < length self.old.hand }
         requires in_hand { IsSome (hand_frame self.old frame.0) }
-        ensures spare { IsSomeAnd (hand_frame self.old frame.0) (λ x. result ≡ Some x.stores) }
+        ensures spare { IsSomeAnd (hand_frame self.old frame.0) (λ x. result ≡ x.stores) }
         ensures view { self.new ≡ record self.old { hand = slice_set self.old.hand frame.0 None } }
     {
         match self.take_place(frame) {
-            Some(left) => Some(left.stores),
-            None => None,
+            Some(left) => left.stores,
+            None => unreachable!(),
         }
     }
 
     /// A frame comes in hand, with these places for its cells, in which nothing was stored.
-    fn get_frame(&mut self, frame: FrameNo, spare: Option<KnownCells>)
+    fn get_frame(&mut self, frame: FrameNo, mut stores: KnownCells)
         requires hand { frame.0 < length self.old.hand }
-        requires spare { IsSomeAnd spare (λ known. length known ≡ self.old.cells) }
+        requires spare { length stores ≡ self.old.cells }
         ensures { self.new ≡ record self.old { hand = slice_set self.old.hand frame.0 (Some (fresh_frame self.old.cells)) } }
     {
-        if let Some(mut stores) = spare {
-            stores.clear();
-            self.put_place(frame, Some(HandFrame { stores, aim: None }));
-        }
+        stores.clear();
+        self.put_place(frame, Some(HandFrame { stores, aim: None }));
     }
 
     /// Has begun to move the held page.
@@ -124,12 +122,12 @@ impl View {
     }
 
     /// Has mapped the held page to a frame in hand. Gives the places for the frame's cells.
-    pub(crate) fn map(&mut self, frame: FrameNo, kind: Kind) -> Option<KnownCells>
+    pub(crate) fn map(&mut self, frame: FrameNo, kind: Kind) -> KnownCells
         requires held { IsSomeAnd self.old.held (IsHeldRoom self.old.cells) }
         requires hand { frame.0 < length self.old.hand }
         requires in_hand { IsSome (hand_frame self.old frame.0) }
         requires fits { frame.0 < 2 ^ 20 }
-        ensures spare { IsSomeAnd (hand_frame self.old frame.0) (λ x. result ≡ Some x.stores) }
+        ensures spare { IsSomeAnd (hand_frame self.old frame.0) (λ x. result ≡ x.stores) }
         ensures view { self.new ≡ view_after_move OneOwner self.old (MoveStep.Map frame kind) }
     {
         if let Some(held) = &mut self.held {
@@ -139,11 +137,11 @@ impl View {
     }
 
     /// Has unmapped the held page. Its frame comes in hand, with these places for its cells.
-    pub(crate) fn unmap(&mut self, frame: FrameNo, spare: Option<KnownCells>)
+    pub(crate) fn unmap(&mut self, frame: FrameNo, spare: KnownCells)
         requires held { IsSomeAnd self.old.held (IsHeldRoom self.old.cells) }
         requires frame { frame.0 ≡ frame_of (held_word self.old.held) }
         requires hand { frame.0 < length self.old.hand }
-        requires spare { IsSomeAnd spare (λ known. length known ≡ self.old.cells) }
+        requires spare { length spare ≡ self.old.cells }
         ensures { self.new ≡ view_after_move OneOwner self.old MoveStep.Unmap }
     {
         if let Some(held) = &mut self.held {
@@ -154,20 +152,15 @@ impl View {
 
     /// Has moved the held page from its frame to one in hand. The old frame comes in hand, with these
     /// places for its cells. Gives those for the cells of the other.
-    pub(crate) fn remap(
-        &mut self,
-        old: FrameNo,
-        spare: Option<KnownCells>,
-        frame: FrameNo,
-    ) -> Option<KnownCells>
+    pub(crate) fn remap(&mut self, old: FrameNo, spare: KnownCells, frame: FrameNo) -> KnownCells
         requires held { IsSome self.old.held }
         requires old { old.0 ≡ frame_of (held_word self.old.held) }
         requires old_place { old.0 < length self.old.hand }
-        requires spare { IsSomeAnd spare (λ known. length known ≡ self.old.cells) }
+        requires spare { length spare ≡ self.old.cells }
         requires hand { frame.0 < length self.old.hand }
         requires in_hand { IsSome (hand_frame self.old frame.0) }
         requires fits { frame.0 < 2 ^ 20 }
-        ensures spare { IsSomeAnd (hand_frame self.old frame.0) (λ x. result ≡ Some x.stores) }
+        ensures spare { IsSomeAnd (hand_frame self.old frame.0) (λ x. result ≡ x.stores) }
         ensures view { self.new ≡ view_after_move OneOwner self.old (MoveStep.Remap frame) }
     {
         if let Some(held) = &mut self.held {

@@ -156,7 +156,7 @@ impl View {
     }
 
     /// Whether the seat wrote the frame and hasn't marked it since.
-    fn has_unmarked(&self, frame: FrameNo) -> bool
+    pub fn has_unmarked(&self, frame: FrameNo) -> bool
         ensures { result ≡ not (times_unmarked frame.0 self.now == 0) }
     {
         self.unmarked.contains(&frame)
@@ -201,12 +201,12 @@ impl View {
         &mut self,
         entries: &mut LinkedList<Entry, Global>,
         cells: &mut Option<CellRoom>,
-        done: Option<CallDone>,
+        done: &Option<CallDone>,
     )
         requires holds { IsSome self.old.held }
-        requires some { IsSome done → 0 < length entries.old }
+        requires some { IsSome done.now → 0 < length entries.old }
         requires short { length self.old.entries + 1 < 2 ^ 63 }
-        ensures view { self.new ≡ after_release self.old done }
+        ensures view { self.new ≡ after_release self.old done.now }
         ensures entries { length entries.new + length self.new.entries ≡ length entries.old + length self.old.entries }
         ensures cells { IsSomeAnd self.old.held (λ h. cells.new ≡ Some (record { loads = h.loads; stores = h.stores })) }
     {

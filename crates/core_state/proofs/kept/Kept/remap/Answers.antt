@@ -1,4 +1,4 @@
-use Rattle.std.proofs.Common.{subst, ap, set, ◌∙◌, arith}
+use Rattle.std.proofs.Common.{subst, ap, set, ◌∙◌, arith, Some}
 use Rattle.evac_words.specs.Word.{frame_of}
 use Rattle.core_state.specs.declared.keeper.Keeper.TheVariants.{OneOwner}
 use Rattle.core_state.specs.declared.room.Room.{Room}
@@ -8,15 +8,20 @@ use Rattle.core_state.specs.Steps.{held_word}
 use Rattle.core_state.specs.MoveSteps.{AllowedMove}
 use Rattle.core_state.proofs.Rooms.{seat_has, lent_has, lent_is}
 use Rattle.core_state.proofs.RoomMoves.{room-remap}
-use Rattle.core_state.proofs.MovePlaces.{remap_on_frame, remap_place, old_frame_low, old_frame_spare}
+use Rattle.core_state.proofs.MovePlaces.{remap_on_frame, remap_place, old_frame_low, old_frame_has, old_frame_spare}
 use Rattle.core_state.proofs.kept.Kept.remap.Goals as goal
 
-pub take_spare-old_spare-requires : goal.take_spare-old_spare-requires
-take_spare-old_spare-requires c =
+pub take_spare-old_spare-requires-clause-frame : goal.take_spare-old_spare-requires-clause-frame
+take_spare-old_spare-requires-clause-frame c =
     let at = seat_has c.args.self.now.snapshot.views c.args.seat c.requires.seat in
     let a = old_frame_low _ _ _ c.requires.sound c.args.seat _ at (remap_on_frame _ _ _ c.requires.sound c.args.seat _ at c.args.frame c.requires.may) in
     let b = c.requires.room.spares in
     let e = c.held_frame.ensures in omega arith
+
+pub take_spare-old_spare-requires-clause-some : goal.take_spare-old_spare-requires-clause-some
+take_spare-old_spare-requires-clause-some c =
+    let at = seat_has c.args.self.now.snapshot.views c.args.seat c.requires.seat in
+    old_frame_has _ _ _ c.requires.sound c.args.seat _ at c.args.self.now.room c.held_frame.result c.requires.room (remap_on_frame _ _ _ c.requires.sound c.args.seat _ at c.args.frame c.requires.may) c.held_frame.ensures
 
 pub remap-spare-requires-clause-old_place : goal.remap-spare-requires-clause-old_place
 remap-spare-requires-clause-old_place c =
@@ -52,9 +57,9 @@ returns-clause-room c =
     let same = lent_is views c.args.seat x c.requires.seat c.item_mut.ensures.value in
     let may = subst (λ (v : View). AllowedMove OneOwner c.args.self.now.opening v (Remap c.args.frame)) same c.requires.may in
     room-remap c.args.self.now.opening views c.args.seat x c.args.self.now.room
-    (lent_has views c.args.seat x c.requires.seat c.item_mut.ensures.value) c.requires.room c.args.frame c.held_frame.result _ c.remap-spare.result _
+    (lent_has views c.args.seat x c.requires.seat c.item_mut.ensures.value) c.requires.room c.args.frame c.held_frame.result _ c.remap-spare.result _ c.requires.sound.seats
     (let a = old_frame_low _ _ _ c.requires.sound c.args.seat _ at (remap_on_frame _ _ _ c.requires.sound c.args.seat _ at c.args.frame c.requires.may) in let b = may.0.hand in let e = c.held_frame.ensures in omega arith)
     may
     (c.held_frame.ensures ∙ ap (λ (v : View). frame_of (held_word v.held)) same)
     c.remap-spare.ensures.view c.remap-spare.ensures.spare
-    (c.keep_spare.ensures ∙ ap (λ (r : Room). record r { spare = set r.spare c.args.frame.0 c.remap-spare.result }) c.take_spare-old_spare.ensures.room)
+    (c.keep_spare.ensures ∙ ap (λ (r : Room). record r { spare = set r.spare c.args.frame.0 (Some c.remap-spare.result) }) c.take_spare-old_spare.ensures.room)

@@ -7,22 +7,27 @@ use Rattle.core_state.specs.Steps.{held_word}
 use Rattle.core_state.specs.MoveSteps.{MayUnmap, AllowedMove}
 use Rattle.core_state.proofs.Rooms.{seat_has, lent_has, lent_is}
 use Rattle.core_state.proofs.RoomMoves.{room-unmap}
-use Rattle.core_state.proofs.MovePlaces.{unmap_on_frame, old_frame_low, old_frame_spare, held_room}
+use Rattle.core_state.proofs.MovePlaces.{unmap_on_frame, old_frame_low, old_frame_has, old_frame_spare, held_has_room}
 use Rattle.core_state.proofs.kept.Kept.unmap.Goals as goal
 
-pub take_spare-spare-requires : goal.take_spare-spare-requires
-take_spare-spare-requires c =
+pub take_spare-spare-requires-clause-frame : goal.take_spare-spare-requires-clause-frame
+take_spare-spare-requires-clause-frame c =
     let at = seat_has c.args.self.now.snapshot.views c.args.seat c.requires.seat in
     let a = old_frame_low _ _ _ c.requires.sound c.args.seat _ at (unmap_on_frame _ _ _ c.requires.sound c.args.seat _ at c.requires.may) in
     let b = c.requires.room.spares in
     let e = c.held_frame.ensures in omega arith
+
+pub take_spare-spare-requires-clause-some : goal.take_spare-spare-requires-clause-some
+take_spare-spare-requires-clause-some c =
+    let at = seat_has c.args.self.now.snapshot.views c.args.seat c.requires.seat in
+    old_frame_has _ _ _ c.requires.sound c.args.seat _ at c.args.self.now.room c.held_frame.result c.requires.room (unmap_on_frame _ _ _ c.requires.sound c.args.seat _ at c.requires.may) c.held_frame.ensures
 
 pub unmap-requires-clause-held : goal.unmap-requires-clause-held
 unmap-requires-clause-held c =
     let views = c.args.self.now.snapshot.views in
     let x = c.item_mut.result.now in
     let may = subst (λ (v : View). AllowedMove OneOwner c.args.self.now.opening v Unmap) (lent_is views c.args.seat x c.requires.seat c.item_mut.ensures.value) c.requires.may in
-    held_room c.args.self.now.opening views c.args.self.now.room c.args.seat x (lent_has views c.args.seat x c.requires.seat c.item_mut.ensures.value) c.requires.room may.0 MayUnmap may.1
+    held_has_room c.args.self.now.opening views c.args.seat x (lent_has views c.args.seat x c.requires.seat c.item_mut.ensures.value) c.requires.sound.seats may.0 MayUnmap may.1
 
 pub unmap-requires-clause-hand : goal.unmap-requires-clause-hand
 unmap-requires-clause-hand c =
