@@ -1,9 +1,7 @@
--- An owner's view fits its place in the script after each step of a call from its take on.
-use Rattle.std.proofs.Common.{◌≡◌, ℕ, eqb, eq-eqb, cond, not, ◌+◌, ◌-◌, ◌<◌, ◌≤◌, ◌==◌, min, Bool, true, false, List, [], ◌∷◌, ◌++◌, map, filter, length, length-append, length-set, append_assoc, get_or, refl, sym, ap, ◌∙◌, subst, arith, Option, Some, None, if◌then◌else◌, IsSomeAnd}
-use Rattle.std.specs.List.{enumerate_from, count_by}
+-- An owner's view fits its place in the script after its next action, whichever that is.
+use Rattle.std.proofs.Common.{◌≡◌, ◌≢◌, ℕ, eqb-true, ◌+◌, ◌<◌, ◌≤◌, ◌==◌, Bool, false, List, [], ◌∷◌, ◌++◌, map, length, length-append, length-set, append_assoc, get_or, set, refl, sym, ap, ◌∙◌, subst, arith, Option, Some, None, if◌then◌else◌, IsSomeAnd}
+use Rattle.std.specs.List.{enumerate_from, AllByRecursion}
 use Rattle.std.proofs.lemmas.List.{map_push}
-use mathlib.Core.Logic.{dite}
-use native.Mathlib.Decide.{ℕ_discrete}
 use Rattle.evac_model.specs.declared.names.FrameNo.{FrameNo}
 use Rattle.evac_model.specs.declared.names.Kind.{Kind}
 use Rattle.evac_model.specs.declared.names.PageNo.{PageNo}
@@ -11,326 +9,104 @@ use Rattle.evac_model.specs.declared.call.Call.{Call}
 use Rattle.evac_model.specs.declared.call.Call.TheVariants.{Alloc, Free, Read, Write, Add, Pin, Unpin}
 use Rattle.evac_model.specs.declared.entry.Entry.{Entry}
 use Rattle.evac_model.specs.Geometry.{Sizes}
-use Rattle.evac_model.specs.Calls.{IsCallFor}
 use Rattle.evac_model.specs.Scripts.{numbered_call}
 use Rattle.evac_model.proofs.Lists.{all_push}
 use Rattle.evac_words.specs.Word.{taken_bit, mapped_bit, frame_of}
 use Rattle.core_state.specs.declared.hand.HandFrame.{HandFrame}
-use Rattle.core_state.specs.declared.held.Change.{Change}
-use Rattle.core_state.specs.declared.held.Change.TheVariants.{Kept, Mapped, Unmapped}
 use Rattle.core_state.specs.declared.held.Held.{Held}
 use Rattle.core_state.specs.declared.keeper.Keeper.{Keeper}
+use Rattle.core_state.specs.declared.keeper.Keeper.TheVariants.{OneOwner}
 use Rattle.core_state.specs.declared.opening.Opening.{Opening}
-use Rattle.core_state.specs.declared.step.MoveStep.TheVariants.{Unmap}
 use Rattle.core_state.specs.declared.step.CallDone.{CallDone}
+use Rattle.core_state.specs.declared.step.MoveStep.{MoveStep}
+use Rattle.core_state.specs.declared.step.MoveStep.TheVariants as moves
 use Rattle.core_state.specs.declared.step.Step.{Step}
-use Rattle.core_state.specs.declared.step.Step.TheVariants.{Take, Draw, Load, Store, Mark}
+use Rattle.core_state.specs.declared.step.Step.TheVariants as steps
 use Rattle.core_state.specs.declared.view.View.{View}
 use Rattle.core_state.specs.Pages.{number_or}
-use Rattle.core_state.specs.Views.{hand_frame}
-use Rattle.core_state.specs.Steps.{held_page, newly_held, entry_of, with_hand_store, with_unmarked, view_after}
+use Rattle.core_state.specs.Views.{Has, IsSeated, hand_frame}
+use Rattle.core_state.specs.Sound.{Sound}
+use Rattle.core_state.specs.Steps.{held_page, newly_held, entry_of, with_hand_store, view_after}
+use Rattle.core_state.specs.MoveSteps.{hand_after_unmap, view_after_move}
+use Rattle.core_state.specs.HandOvers.{MayHandOver, hand_without, hand_with}
+use Rattle.core_state.proofs.MovePlaces.{old_low}
 use Rattle.core_actors.specs.declared.action.Action.TheVariants as actions
+use Rattle.core_actors.specs.declared.action.Heard.{Heard}
+use Rattle.core_actors.specs.declared.action.Heard.TheVariants as heards
 use Rattle.core_actors.specs.declared.action.LeaseSeen.{LeaseSeen}
 use Rattle.core_actors.specs.declared.action.LeaseSeen.TheVariants.{NotAsked, Got, Refused}
-use Rattle.core_actors.specs.CallSteps.{first_cell, load_count, values_of, is_freed, reply_of, middle_steps, lead_actions, map_actions, mapping_actions, leased_frame, frame_back}
-use Rattle.core_actors.specs.Owners.{OwnerState, before_call, call_ended, after_step}
-use Rattle.core_actors.specs.Counts.{HeardOfLease, IsUnderWay}
-use Rattle.core_actors.specs.Fits.{since_take, mapped_to, change_by, change_so_far, hand_of_call, frame_in_hand, unmarked_for, drawn_for, IsHandFor, HasInHand, IsHeldFor, HoldsFor, Fits}
-use Rattle.core_actors.proofs.ActionKinds.{the_release, middle-length, middle-unmapped, lead_none, none_either}
-use Rattle.core_actors.proofs.CallStates.{call_state, lead_of, kept_before, kept_always, changed_from, drawn_before, drawn_after, change_none, plain_none, mapping_none, frame_if, no_store, some_store, all_marked, none_unmarked, unmarked_plain, unmarked_zero}
-use Rattle.core_actors.proofs.HeldSteps.{holds_after, none_held, held_take, held_draw, held_load, held_store, held_mark}
-use Rattle.core_actors.proofs.SeatPlaces.{holds_some}
-use Rattle.core_actors.proofs.HandSteps.{hand_kept, hand_sized, hand_waiting, has_same, store_elsewhere}
+use Rattle.core_actors.specs.declared.action.SpaceCall.TheVariants.{Lease, Return}
+use Rattle.core_actors.specs.declared.place.Place.{Place}
+use Rattle.core_actors.specs.declared.place.Place.TheVariants.{Between, InCall}
+use Rattle.core_actors.specs.declared.place.CallPlace.{CallPlace}
+use Rattle.core_actors.specs.declared.place.CallPlace.TheVariants.{Zero, MarkZeros, Take, Draw, Load, Store, Mark, Map, Unmap, Release}
+use Rattle.core_actors.specs.CallSteps.{first_cell, load_count, values_of, leased_frame, reply_of}
+use Rattle.core_actors.specs.Places.{frame_in, action_at, zero_from, behind_lease, behind_take, store_from, load_from, behind_draw, behind_first}
+use Rattle.core_actors.specs.Owners.{OwnerState, owner_ended, next_action, owner_after}
+use Rattle.core_actors.specs.Actions.{heard_by}
+use Rattle.core_actors.specs.Counts.{IsUnderWay}
+use Rattle.core_actors.specs.Fits.{SeatHas, just_frame, zeroed, page_done, has_in, has_at, IsHeldAs, IsZeroed, HasInHand, IsSeatWith, IsSeatOf, Fits}
+use Rattle.core_actors.proofs.Cases.{if_two, with_move, with_step}
+use Rattle.core_actors.proofs.UnderWay.{stays_under_way}
+use Rattle.core_actors.proofs.Asks.{first_moves, leases_at, returns_at}
+use Rattle.core_actors.proofs.HandSteps.{within, hand_without_one, hand_with_one}
+use Rattle.core_actors.proofs.HeldCells.{loads_within, stores_within}
+use Rattle.core_actors.proofs.HasAt.{freed_page, has_zeros, has_stores, has_loads, has_done, has_drawn, mapped_done, unmapped_done}
+use Rattle.core_actors.proofs.SeatSteps.{sits_as, sits_take, sits_draw, sits_load, sits_store, sits_mark, sits_zero, sits_marked, sits_release, sits_map, sits_unmap, sits_leased, sits_returned}
 
--- ---- the frames that are unmarked
+module _ (s : Sizes) (o : Opening) (script : List (PageNo × Call)) (v : View) (owner cells : ℕ) where
+  abbrev state : Place → List (PageNo × Call) → OwnerState
+  state place left = record { owner = owner; cells = cells; left = left; place = place }
 
-abbrev pub stored_in : FrameNo → List FrameNo → List FrameNo
-stored_in frame l = if count_by (λ x. x.0 == frame.0) l == 0 then l ++ frame ∷ [] else l
+  -- the same calls are left
+  on : (left : List (PageNo × Call)) (p q : Place) (w : View) → Fits s o script v (state p left) → IsSeated o w → w.caller ≡ v.caller → w.entries ≡ v.entries → IsUnderWay (state q left)
+      → IsSeatWith o.cells left (has_at cells q left) w → Fits s o script w (state q left)
+  on left p q w h seated caller entries way has = record {
+    belongs = record {
+      cells = h.belongs.cells;
+      owner_cells = h.belongs.owner_cells;
+      pages = h.belongs.pages;
+      calls = h.belongs.calls;
+      seated = seated;
+      caller = caller ∙ h.belongs.caller;
+      callers = subst (λ (l : List Entry). AllByRecursion (λ e. e.caller ≡ owner) l) (sym entries) h.belongs.callers;
+      entries = ap (λ (l : List Entry). map numbered_call l ++ enumerate_from (length l) left) entries ∙ h.belongs.entries;
+    };
+    under_way = way;
+    has = has;
+  }
 
-pub stored_again : (frame : FrameNo) → stored_in frame (frame ∷ []) ≡ frame ∷ []
-stored_again frame =
-    let e : eqb frame.0 frame.0 ≡ true = eq-eqb _ _ refl in
-    ap (λ (b : Bool). if 0 + cond b 1 0 == 0 then frame ∷ frame ∷ [] else frame ∷ []) e
+  module _ (k : Keeper) (c : PageNo × Call) (cs : List (PageNo × Call)) (word : ℕ) where
+    abbrev Sits : SeatHas → View → Type 0
+    Sits x w = IsSeatWith o.cells (c ∷ cs) x w
 
-pub marked_in : (frame : FrameNo) → filter (λ (x : FrameNo). not (x.0 == frame.0)) (frame ∷ []) ≡ []
-marked_in frame =
-    let e : eqb frame.0 frame.0 ≡ true = eq-eqb _ _ refl in
-    ap (λ (b : Bool). cond (not b) (frame ∷ []) []) e
-
--- ---- before the next call
-
-module _ (owner n : ℕ) where
-  waiting_hand : (left : List (PageNo × Call)) (back : Option FrameNo) → frame_in_hand (before_call owner n left back) ≡ back
-  waiting_hand left (Some f) = refl
-  waiting_hand [] None = refl
-  waiting_hand (d ∷ ds) None = ap (λ (ch : Change). hand_of_call (before_call owner n (d ∷ ds) None) d ch) (kept_before (before_call owner n (d ∷ ds) None) d (omega arith))
-
-  module _ (back : Option FrameNo) where
-    pub waiting_unmarked : (left : List (PageNo × Call)) → unmarked_for left (before_call owner n left back) ≡ []
-    waiting_unmarked [] = refl
-    waiting_unmarked ((page, Alloc kind) ∷ ds) = refl
-    waiting_unmarked ((page, Free) ∷ ds) = no_store (record { 0 = frame_of 0 }) (0 - 2 - 0) 0 (omega arith)
-    waiting_unmarked ((page, Read first count) ∷ ds) = no_store (record { 0 = frame_of 0 }) (0 - 2 - count) 0 (omega arith)
-    waiting_unmarked ((page, Write first values) ∷ ds) = no_store (record { 0 = frame_of 0 }) (0 - 2 - 0) (length values) (omega arith)
-    waiting_unmarked ((page, Add cell value) ∷ ds) = no_store (record { 0 = frame_of 0 }) (0 - 2 - 1) 1 (omega arith)
-    waiting_unmarked ((page, Pin) ∷ ds) = no_store (record { 0 = frame_of 0 }) (0 - 2 - 0) 0 (omega arith)
-    waiting_unmarked ((page, Unpin) ∷ ds) = no_store (record { 0 = frame_of 0 }) (0 - 2 - 0) 0 (omega arith)
-
-    pub waiting_drawn : (left : List (PageNo × Call)) → drawn_for left (before_call owner n left back) ≡ 0
-    waiting_drawn [] = refl
-    waiting_drawn (d ∷ ds) = drawn_before (before_call owner n (d ∷ ds) back) d (omega arith)
-
-    pub waiting_holds : (cells : ℕ) (left : List (PageNo × Call)) → HoldsFor cells left (before_call owner n left back) None
-    waiting_holds cells [] = refl
-    waiting_holds cells (d ∷ ds) = none_held (since_take (before_call owner n (d ∷ ds) back) d) (IsHeldFor cells d (before_call owner n (d ∷ ds) back)) None (omega arith) refl
-
-  -- the frame that comes in hand for the next call is the one to give back
-  pub waiting_has : (v w : View) (left : List (PageNo × Call)) (back : Option FrameNo) (P : HandFrame → Type 0) → w.hand ≡ v.hand → ((x : HandFrame) → P x → length x.stores ≡ n) → HasInHand v back P
-      → HasInHand w (frame_in_hand (before_call owner n left back)) (IsHandFor left (before_call owner n left back))
-  waiting_has v w left back P same sized h =
-      subst (λ (m : Option FrameNo). HasInHand w m (IsHandFor left (before_call owner n left back))) (sym (waiting_hand left back))
-      (has_same v w back P (IsHandFor left (before_call owner n left back)) same (λ f x e p. hand_waiting owner n left back x (sized x p)) h)
-
--- ---- the frame in hand where a call ends
-
-module _ (owner n : ℕ) (page : PageNo) (cs : List (PageNo × Call)) (found : ℕ) (loads : List ℕ) (made : ℕ) where
-  abbrev in_call : Call → LeaseSeen → OwnerState
-  in_call call lease = call_state owner n (page, call) cs lease found loads made
-
-  abbrev Ends : Call → LeaseSeen → Type 0
-  Ends call lease = made ≡ length (lead_actions n page call lease) + (length (middle_steps found loads call) + length (mapping_actions call lease found) + 2)
-
-  hand_if : (call : Call) (lease : LeaseSeen) (ch : Change) → change_so_far (in_call call lease) (page, call) ≡ ch → frame_in_hand (in_call call lease) ≡ hand_of_call (in_call call lease) (page, call) ch
-  hand_if call lease ch e = ap (λ (x : Change). hand_of_call (in_call call lease) (page, call) x) e
-
-  unmapped_hand : (kind : Kind) (lease : LeaseSeen) → mapped_bit found ≡ 0 → Ends (Alloc kind) lease → frame_in_hand (in_call (Alloc kind) lease) ≡ None
-  unmapped_hand kind NotAsked e at = hand_if (Alloc kind) NotAsked Kept (kept_always (in_call (Alloc kind) NotAsked) (page, Alloc kind) (ap (λ (m : ℕ). if m == 1 then Kept else Kept) e))
-  unmapped_hand kind (Got frame) e at =
-      let none : length (middle_steps found loads (Alloc kind)) ≡ 0 = ap (λ (l : List Step). length l) (none_either (mapped_bit found == 1)) in
-      let one : length (mapping_actions (Alloc kind) (Got frame) found) ≡ 1 = ap (λ (m : ℕ). length (if m == 1 then [] else map_actions kind (Got frame))) e in
-      hand_if (Alloc kind) (Got frame) (Mapped kind) (changed_from (in_call (Alloc kind) (Got frame)) (page, Alloc kind) (omega arith) ∙ ap (λ (m : ℕ). if m == 1 then Kept else Mapped kind) e)
-  unmapped_hand kind (Refused i) e at = hand_if (Alloc kind) (Refused i) Kept (kept_always (in_call (Alloc kind) (Refused i)) (page, Alloc kind) (ap (λ (m : ℕ). if m == 1 then Kept else Kept) e))
-
-  alloc_hand : (kind : Kind) (lease : LeaseSeen) → Ends (Alloc kind) lease → frame_in_hand (in_call (Alloc kind) lease) ≡ frame_back (Alloc kind) lease found
-  alloc_hand kind lease at = dite (ℕ_discrete (mapped_bit found) 1)
-      (λ mapped. hand_if (Alloc kind) lease Kept (kept_always (in_call (Alloc kind) lease) (page, Alloc kind) (ap (λ (m : ℕ). if m == 1 then Kept else mapped_to kind lease) mapped))
-      ∙ sym (ap (λ (m : ℕ). if m == 1 then leased_frame lease else None) mapped))
-      (λ other. let e : mapped_bit found ≡ 0 = omega arith in unmapped_hand kind lease e at ∙ sym (ap (λ (m : ℕ). if m == 1 then leased_frame lease else None) e))
-
-  free_hand : (lease : LeaseSeen) (b : Bool) → is_freed found ≡ b → lease ≡ NotAsked → Ends Free lease → frame_in_hand (in_call Free lease) ≡ frame_back Free lease found
-  free_hand lease true e heard at =
-      let none : length (middle_steps found loads Free) ≡ 0 = ap (λ (l : List Step). length l) (none_either (mapped_bit found == 1)) in
-      let one : length (mapping_actions Free lease found) ≡ 1 = ap (λ (b : Bool). length (if b then actions.Move Unmap ∷ [] else [])) e in
-      hand_if Free lease Unmapped (changed_from (in_call Free lease) (page, Free) (omega arith) ∙ ap (λ (b : Bool). if b then Unmapped else Kept) e)
-      ∙ sym (ap (λ (b : Bool). if b then Some (record { 0 = frame_of found }) else None) e)
-  free_hand lease false e heard at =
-      hand_if Free lease Kept (kept_always (in_call Free lease) (page, Free) (ap (λ (b : Bool). if b then Unmapped else Kept) e))
-      ∙ (ap leased_frame heard ∙ sym (ap (λ (b : Bool). if b then Some (record { 0 = frame_of found }) else None) e))
-
-  hand_back : (call : Call) (lease : LeaseSeen) → HeardOfLease call made lease → Ends call lease → frame_in_hand (in_call call lease) ≡ frame_back call lease found
-  hand_back (Alloc kind) lease heard at = alloc_hand kind lease at
-  hand_back Free lease heard at = free_hand lease (is_freed found) refl heard at
-  hand_back (Read first count) lease heard at = hand_if (Read first count) lease Kept (kept_always (in_call (Read first count) lease) (page, Read first count) refl) ∙ ap leased_frame heard
-  hand_back (Write first values) lease heard at = hand_if (Write first values) lease Kept (kept_always (in_call (Write first values) lease) (page, Write first values) refl) ∙ ap leased_frame heard
-  hand_back (Add cell value) lease heard at = hand_if (Add cell value) lease Kept (kept_always (in_call (Add cell value) lease) (page, Add cell value) refl) ∙ ap leased_frame heard
-  hand_back Pin lease heard at = hand_if Pin lease Kept (kept_always (in_call Pin lease) (page, Pin) refl) ∙ ap leased_frame heard
-  hand_back Unpin lease heard at = hand_if Unpin lease Kept (kept_always (in_call Unpin lease) (page, Unpin) refl) ∙ ap leased_frame heard
-
--- ---- each kind of step
-
-module _ (k : Keeper) (s : Sizes) (o : Opening) (v : View) (script : List (PageNo × Call)) (owner n : ℕ) (c : PageNo × Call) (cs : List (PageNo × Call)) (lease : LeaseSeen) (found : ℕ) (loads : List ℕ) (made : ℕ) where
-  abbrev st : ℕ → List ℕ → ℕ → OwnerState
-  st found loads made = call_state owner n c cs lease found loads made
-
-  abbrev now : OwnerState
-  now = st found loads made
-
-  abbrev frame : FrameNo
-  frame = record { 0 = frame_of found }
-
-  abbrev lead : ℕ
-  lead = lead_of n c lease
-
-  module _ (h : Fits s o script v now) (word : ℕ) where
-    fits : IsCallFor s c.1
-    fits = (h.calls.0).call
-
-    many : length loads ≡ min (made - 2) (load_count c.1)
-    many = h.under_way.call.1
-
-    held : lead < made → IsSomeAnd v.held (IsHeldFor o.cells c now)
-    held lt = holds_some (since_take now c) (IsHeldFor o.cells c now) v.held (omega arith) h.held
-
-    -- up to the draw nothing is unmarked
-    early : (f : ℕ) (l : List ℕ) (m : ℕ) → lead ≤ made → made ≤ lead + 2 → lead ≤ m → m ≤ lead + 2 → v.unmarked ≡ unmarked_for (c ∷ cs) (st f l m)
-    early f l m a b d e = h.unmarked ∙ (unmarked_zero owner n c.0 cs found loads made c.1 lease a b ∙ sym (unmarked_zero owner n c.0 cs f l m c.1 lease d e))
-
-    pub fits_take : made ≡ lead → IsUnderWay (after_step now word (Take c.0)) → Fits s o script (view_after k v (Take c.0) word) (after_step now word (Take c.0))
-    fits_take at way = dite (ℕ_discrete (taken_bit word) 0)
-        (λ free.
-        let u : IsUnderWay (st word loads (made + 1)) = rw free at way in
-        let fine : Fits s o script (record (view_after k v (Take c.0) word) { held = Some (newly_held v.cells c.0 word) }) (st word loads (made + 1)) = record {
-          cells = h.cells;
-          owner_cells = h.owner_cells;
-          pages = h.pages;
-          calls = h.calls;
-          under_way = u;
-          seated = record { cells = h.seated.cells; hand = h.seated.hand; image = h.seated.image };
-          caller = h.caller;
-          callers = h.callers;
-          entries = h.entries;
-          left = let a = h.left in let b = drawn_before now c (omega arith) in let d = drawn_before (st word loads (made + 1)) c (omega arith) in omega arith;
-          unmarked = early word loads (made + 1) (omega arith) (omega arith) (omega arith) (omega arith);
-          held = holds_after (since_take (st word loads (made + 1)) c) (IsHeldFor o.cells c (st word loads (made + 1))) _ (omega arith) (held_take s o.cells n owner c cs lease found loads made h.cells fits many v.cells word h.seated.cells free at);
-          hand = hand_kept owner n cs found word loads loads made (made + 1) v (view_after k v (Take c.0) word) c lease (omega arith) refl (kept_before now c (omega arith)) (kept_before (st word loads (made + 1)) c (omega arith)) h.hand;
-        } in
-        rw free fine)
-        (λ other.
-        let taken : taken_bit word ≡ 1 = omega arith in
-        let fine : Fits s o script (record (view_after k v (Take c.0) word) { held = None }) now = record {
-          cells = h.cells;
-          owner_cells = h.owner_cells;
-          pages = h.pages;
-          calls = h.calls;
-          under_way = h.under_way;
-          seated = record { cells = h.seated.cells; hand = h.seated.hand; image = h.seated.image };
-          caller = h.caller;
-          callers = h.callers;
-          entries = h.entries;
-          left = h.left;
-          unmarked = h.unmarked;
-          held = none_held (since_take now c) (IsHeldFor o.cells c now) None (omega arith) refl;
-          hand = h.hand;
-        } in
-        rw taken fine)
-
-    pub fits_draw : made ≡ lead + 1 → IsUnderWay (st found loads (made + 1)) → Fits s o script (view_after k v Draw word) (st found loads (made + 1))
-    fits_draw at way = record {
-      cells = h.cells;
-      owner_cells = h.owner_cells;
-      pages = h.pages;
-      calls = h.calls;
-      under_way = way;
-      seated = record { cells = h.seated.cells; hand = h.seated.hand; image = h.seated.image };
-      caller = h.caller;
-      callers = h.callers;
-      entries = h.entries;
-      left = let a = h.left in let b = drawn_before now c (omega arith) in let d = drawn_after (st found loads (made + 1)) c (omega arith) in omega arith;
-      unmarked = early found loads (made + 1) (omega arith) (omega arith) (omega arith) (omega arith);
-      held = holds_after (since_take (st found loads (made + 1)) c) (IsHeldFor o.cells c (st found loads (made + 1))) _ (omega arith) (held_draw s o.cells n owner c cs lease found loads made h.cells fits many v.held word (held (omega arith)) at);
-      hand = hand_kept owner n cs found found loads loads made (made + 1) v (view_after k v Draw word) c lease (omega arith) refl (kept_before now c (omega arith)) (kept_before (st found loads (made + 1)) c (omega arith)) h.hand;
-    }
-
-    -- ---- steps on cells
-
-    module _ (plain : lead ≡ 0) (some : 0 < load_count c.1 + length (values_of loads c.1)) (behind : 2 ≤ made) where
-      keeps : change_by c.1 lease found ≡ Kept
-      keeps = change_none c.1 lease found loads some
-
-      stays_kept : (l : List ℕ) (m : ℕ) → change_so_far (st found l m) c ≡ Kept
-      stays_kept l m = kept_always (st found l m) c keeps
-
-      unmarked_now : v.unmarked ≡ frame_if frame (made - 2 - load_count c.1) (length (values_of loads c.1))
-      unmarked_now = h.unmarked ∙ unmarked_plain owner n c.0 cs found loads made c.1 lease some
-
-      pub fits_load : (i : ℕ) → made ≡ 2 + i → i < load_count c.1 → IsUnderWay (st found (loads ++ word ∷ []) (made + 1))
-          → Fits s o script (view_after k v (Load (first_cell c.1 + i)) word) (st found (loads ++ word ∷ []) (made + 1))
-      fits_load i at lt way = record {
-        cells = h.cells;
-        owner_cells = h.owner_cells;
-        pages = h.pages;
-        calls = h.calls;
-        under_way = way;
-        seated = record { cells = h.seated.cells; hand = h.seated.hand; image = h.seated.image };
-        caller = h.caller;
-        callers = h.callers;
-        entries = h.entries;
-        left = let a = h.left in let b = drawn_after now c (omega arith) in let d = drawn_after (st found (loads ++ word ∷ []) (made + 1)) c (omega arith) in omega arith;
-        unmarked = unmarked_now ∙ (no_store frame (made - 2 - load_count c.1) _ (omega arith)
-            ∙ sym (unmarked_plain owner n c.0 cs found (loads ++ word ∷ []) (made + 1) c.1 lease (omega arith) ∙ no_store frame (made + 1 - 2 - load_count c.1) _ (omega arith)));
-        held = holds_after (since_take (st found (loads ++ word ∷ []) (made + 1)) c) (IsHeldFor o.cells c (st found (loads ++ word ∷ []) (made + 1))) _ (omega arith)
-            (held_load s o.cells n owner c cs lease found loads made h.cells fits many plain keeps v.held i word (held (omega arith)) at lt);
-        hand = hand_kept owner n cs found found loads (loads ++ word ∷ []) made (made + 1) v (view_after k v (Load (first_cell c.1 + i)) word) c lease (omega arith) refl (stays_kept loads made) (stays_kept (loads ++ word ∷ []) (made + 1)) h.hand;
-      }
-
-      abbrev value_at : ℕ → ℕ
-      value_at j = get_or (values_of loads c.1) j 0
-
-      unmarked-stored : (j : ℕ) → made ≡ 2 + load_count c.1 + j → j < length (values_of loads c.1) → with_unmarked v frame ≡ frame ∷ []
-      unmarked-stored j at lt = dite (ℕ_discrete j 0)
-          (λ z. ap (λ (l : List FrameNo). stored_in frame l) (unmarked_now ∙ no_store frame (made - 2 - load_count c.1) _ (omega arith)))
-          (λ more. ap (λ (l : List FrameNo). stored_in frame l) (unmarked_now ∙ some_store frame (made - 2 - load_count c.1) _ (omega arith) (omega arith)) ∙ stored_again frame)
-
-      -- the call has no frame in hand
-      empty_hand : (f : ℕ) → hand_frame v f ≡ None
-      empty_hand = subst (λ (m : Option FrameNo). HasInHand v m (IsHandFor (c ∷ cs) now))
-          (ap (λ (ch : Change). hand_of_call now c ch) (stays_kept loads made) ∙ ap leased_frame (plain_none n c.0 c.1 lease made plain h.under_way.call.2)) h.hand
-
-      pub fits_store : (j : ℕ) → mapped_bit found ≡ 1 → made ≡ 2 + load_count c.1 + j → j < length (values_of loads c.1) → IsUnderWay (st found loads (made + 1))
-          → Fits s o script (view_after k v (Store frame (first_cell c.1 + j) (value_at j)) word) (st found loads (made + 1))
-      fits_store j mapped at lt way = record {
-        cells = h.cells;
-        owner_cells = h.owner_cells;
-        pages = h.pages;
-        calls = h.calls;
-        under_way = way;
-        seated = record { cells = h.seated.cells; hand = length-set v.hand (frame_of found) (with_hand_store (hand_frame v (frame_of found)) (first_cell c.1 + j) (value_at j)) ∙ h.seated.hand; image = h.seated.image };
-        caller = h.caller;
-        callers = h.callers;
-        entries = h.entries;
-        left = let a = h.left in let b = drawn_after now c (omega arith) in let d = drawn_after (st found loads (made + 1)) c (omega arith) in omega arith;
-        unmarked = unmarked-stored j at lt ∙ sym (unmarked_plain owner n c.0 cs found loads (made + 1) c.1 lease some ∙ some_store frame (made + 1 - 2 - load_count c.1) _ (omega arith) (omega arith));
-        held = holds_after (since_take (st found loads (made + 1)) c) (IsHeldFor o.cells c (st found loads (made + 1))) _ (omega arith)
-            (held_store s o.cells n owner c cs lease found loads made h.cells fits many plain keeps v.held j (held (omega arith)) mapped at lt);
-        hand = hand_kept owner n cs found found loads loads made (made + 1) v (view_after k v (Store frame (first_cell c.1 + j) (value_at j)) word) c lease (omega arith)
-            (store_elsewhere v (frame_of found) (first_cell c.1 + j) (value_at j) (empty_hand (frame_of found))) (stays_kept loads made) (stays_kept loads (made + 1)) h.hand;
-      }
-
-      pub fits_mark : made ≡ 2 + load_count c.1 + length (values_of loads c.1) → 0 < length (values_of loads c.1) → IsUnderWay (st found loads (made + 1))
-          → Fits s o script (view_after k v (Mark frame) word) (st found loads (made + 1))
-      fits_mark at lt way = record {
-        cells = h.cells;
-        owner_cells = h.owner_cells;
-        pages = h.pages;
-        calls = h.calls;
-        under_way = way;
-        seated = record { cells = h.seated.cells; hand = h.seated.hand; image = h.seated.image };
-        caller = h.caller;
-        callers = h.callers;
-        entries = h.entries;
-        left = let a = h.left in let b = drawn_after now c (omega arith) in let d = drawn_after (st found loads (made + 1)) c (omega arith) in omega arith;
-        unmarked = ap (λ (l : List FrameNo). filter (λ (x : FrameNo). not (x.0 == frame.0)) l) (unmarked_now ∙ some_store frame (made - 2 - load_count c.1) _ (omega arith) (omega arith))
-            ∙ (marked_in frame ∙ sym (unmarked_plain owner n c.0 cs found loads (made + 1) c.1 lease some ∙ all_marked frame (made + 1 - 2 - load_count c.1) _ (omega arith)));
-        held = holds_after (since_take (st found loads (made + 1)) c) (IsHeldFor o.cells c (st found loads (made + 1))) _ (omega arith)
-            (held_mark s o.cells n owner c cs lease found loads made h.cells fits many plain keeps v.held (held (omega arith)) at);
-        hand = hand_kept owner n cs found found loads loads made (made + 1) v (view_after k v (Mark frame) word) c lease (omega arith) refl (stays_kept loads made) (stays_kept loads (made + 1)) h.hand;
-      }
+    fits_take : (here : Place) (lease : LeaseSeen) (zeros : ℕ) → Fits s o script v (state here (c ∷ cs)) → has_at cells here (c ∷ cs) ≡ record { tickets = 0; unmarked = []; page = None; frame = leased_frame lease; zeros = zeros }
+        → Sits (record { tickets = 0; unmarked = []; page = None; frame = leased_frame lease; zeros = cells }) v
+        → IsUnderWay (state (behind_take here lease word) (c ∷ cs)) → Fits s o script (view_after k v (steps.Take c.0) word) (state (behind_take here lease word) (c ∷ cs))
+    fits_take here lease zeros h is ready way =
+        let seated = h.belongs.seated in
+        let w : View = view_after k v (steps.Take c.0) word in
+        let now : Sits (record { tickets = 0; unmarked = []; page = None; frame = leased_frame lease; zeros = zeros }) v = subst (λ (x : SeatHas). Sits x v) is h.has in
+        let first = loads_within s c.1 (h.belongs.calls.0).call in
+        let size = h.belongs.cells in
+        on (c ∷ cs) here (behind_take here lease word) w h (record { cells = seated.cells; hand = seated.hand; image = seated.image }) refl refl way
+        (if_two (λ (p : Place) (x : Option Held). Sits (has_at cells p (c ∷ cs)) (record w { held = x })) (taken_bit word == 0) (InCall (Draw lease word)) here (Some (newly_held v.cells c.0 word)) None
+        (λ t. sits_take o.cells c cs k v (leased_frame lease) cells word seated.cells (omega arith) (eqb-true (taken_bit word) 0 t) ready)
+        (λ f. subst (λ (x : SeatHas). Sits x (record w { held = None })) (sym is)
+        (sits_as o.cells c cs v (record w { held = None }) (leased_frame lease) zeros zeros refl refl (sym now.held) refl (omega arith) now)))
 
     -- ---- the release
 
-    module _ (at : made ≡ lead + (length (middle_steps found loads c.1) + length (mapping_actions c.1 lease found) + 2)) where
-      -- nothing is unmarked where the call ends
-      unmarked-end : v.unmarked ≡ []
-      unmarked-end = h.unmarked ∙ dite (ℕ_discrete (length (values_of loads c.1)) 0)
-          (λ none. none_unmarked owner n c.0 cs found loads made c.1 lease none (omega arith))
-          (λ some.
-          let plain = lead_none n c.0 c.1 lease loads (omega arith) in
-          let alone = mapping_none c.1 lease found loads (omega arith) in
-          unmarked_plain owner n c.0 cs found loads made c.1 lease (omega arith) ∙ dite (ℕ_discrete (mapped_bit found) 1)
-          (λ mapped. let m = middle-length n c lease found loads s fits mapped in all_marked frame (made - 2 - load_count c.1) _ (omega arith))
-          (λ other.
-          let none : length (middle_steps found loads c.1) ≡ 0 = ap (λ (l : List Step). length l) (middle-unmapped n c lease found loads (omega arith)) in
-          no_store frame (made - 2 - load_count c.1) _ (omega arith)))
+    page_in : (size : ℕ) (call : Call) (lease : LeaseSeen) (found : ℕ) (loads : List ℕ) (x : Option Held) → IsSomeAnd x (IsHeldAs size c (page_done call lease found loads)) → held_page x ≡ (c.0).0
+    page_in size call lease found loads None some = absurd some
+    page_in size call lease found loads (Some x) some = ap (λ (p : PageNo). p.0) some.page
 
+    module _ (lease : LeaseSeen) (found : ℕ) (loads : List ℕ) (h : Fits s o script v (state (InCall (Release lease found loads)) (c ∷ cs))) where
       abbrev done : CallDone
       done = record { call = c.1; reply = reply_of lease found loads c.1 }
 
-      page_in : (x : Option Held) → IsSomeAnd x (IsHeldFor o.cells c now) → held_page x ≡ (c.0).0
-      page_in None some = absurd some
-      page_in (Some x) some = ap (λ (p : PageNo). p.0) some.page
-
       entry_is : numbered_call (entry_of v done) ≡ (length v.entries, c)
-      entry_is = ap (λ (p : ℕ). (length v.entries, (record { 0 = p }, c.1))) (page_in v.held (held (omega arith)))
+      entry_is = ap (λ (p : ℕ). (length v.entries, (record { 0 = p }, c.1))) (page_in o.cells c.1 lease found loads v.held h.has.held)
 
       entries_pushed : map numbered_call (v.entries ++ entry_of v done ∷ []) ++ enumerate_from (length (v.entries ++ entry_of v done ∷ [])) cs ≡ enumerate_from 0 script
       entries_pushed =
@@ -340,22 +116,241 @@ module _ (k : Keeper) (s : Sizes) (o : Opening) (v : View) (script : List (PageN
           ∙ (ap (λ (l : List (ℕ × (PageNo × Call))). l ++ rest) (map_push numbered_call v.entries (entry_of v done))
           ∙ (append_assoc (map numbered_call v.entries) (numbered_call (entry_of v done) ∷ []) rest
           ∙ (ap (λ (e : ℕ × (PageNo × Call)). map numbered_call v.entries ++ e ∷ rest) entry_is
-          ∙ h.entries)))
+          ∙ h.belongs.entries)))
 
-      pub fits_release : IsUnderWay (call_ended now) → Fits s o script (view_after k v (the_release n c lease found loads) word) (call_ended now)
-      fits_release way = record {
-        cells = h.cells;
-        owner_cells = h.owner_cells;
-        pages = h.pages;
-        calls = h.calls.1;
-        under_way = way;
-        seated = record { cells = h.seated.cells; hand = h.seated.hand; image = h.seated.image };
-        caller = h.caller;
-        callers = all_push (λ (e : Entry). e.caller ≡ owner) v.entries h.callers (entry_of v done) (ap (λ (x : Option ℕ). number_or x 0) h.caller);
-        entries = entries_pushed;
-        left = let a = h.left in let b = drawn_after now c (omega arith) in let d = waiting_drawn owner n (frame_back c.1 lease found) cs in omega arith;
-        unmarked = unmarked-end ∙ sym (waiting_unmarked owner n (frame_back c.1 lease found) cs);
-        held = waiting_holds owner n (frame_back c.1 lease found) o.cells cs;
-        hand = waiting_has owner n v (view_after k v (the_release n c lease found loads) word) cs (frame_back c.1 lease found) (IsHandFor (c ∷ cs) now) refl (λ x p. hand_sized (c ∷ cs) now x p)
-            (subst (λ (m : Option FrameNo). HasInHand v m (IsHandFor (c ∷ cs) now)) (hand_back owner n c.0 cs found loads made c.1 lease h.under_way.call.2 at) h.hand);
-      }
+      fits_release : Fits s o script (view_after k v (steps.Release (Some done)) word) (owner_after (state (InCall (Release lease found loads)) (c ∷ cs)) heards.Nothing)
+      fits_release =
+          let b = h.belongs in
+          record {
+            belongs = record {
+              cells = b.cells;
+              owner_cells = b.owner_cells;
+              pages = b.pages;
+              calls = b.calls.1;
+              seated = record { cells = b.seated.cells; hand = b.seated.hand; image = b.seated.image };
+              caller = b.caller;
+              callers = all_push (λ (e : Entry). e.caller ≡ owner) v.entries b.callers (entry_of v done) (ap (λ (x : Option ℕ). number_or x 0) b.caller);
+              entries = entries_pushed;
+            };
+            under_way = tt;
+            has = sits_release o.cells c cs k v (page_done c.1 lease found loads) _ word done h.has;
+          }
+
+    -- ---- any step in a call
+
+    module _ (h_at : CallPlace) where
+      abbrev here : OwnerState
+      here = state (InCall h_at) (c ∷ cs)
+
+    abbrev AfterStep : CallPlace → Step → Type 0
+    AfterStep at step = Fits s o script (view_after k v step word) (owner_after (here at) (heard_by step word))
+
+    fits_in : (at : CallPlace) (step : Step) → Fits s o script v (here at) → action_at c at ≡ actions.Step step → AfterStep at step
+    fits_in (Zero frame cell) step h is =
+        let seated = h.belongs.seated in
+        let below = h.under_way.1 in
+        let a = h.belongs.cells in
+        let b = h.belongs.owner_cells in
+        let w : View = view_after k v (steps.Store frame cell 0) word in
+        with_step (AfterStep (Zero frame cell)) (steps.Store frame cell 0) step is
+        (on (c ∷ cs) (InCall (Zero frame cell)) (InCall (zero_from cells frame (cell + 1))) w h
+        (record { cells = seated.cells; hand = length-set v.hand frame.0 (with_hand_store (hand_frame v frame.0) cell 0) ∙ seated.hand; image = seated.image }) refl refl
+        (stays_under_way (here (Zero frame cell)) heards.Nothing h.under_way)
+        (subst (λ (x : SeatHas). Sits x w) (sym (has_zeros cells c.1 frame (cell + 1) (omega arith))) (sits_zero o.cells c cs k v frame cell word (omega arith) h.has)))
+    fits_in (MarkZeros frame) step h is =
+        let seated = h.belongs.seated in
+        with_step (AfterStep (MarkZeros frame)) (steps.Mark frame) step is
+        (on (c ∷ cs) (InCall (MarkZeros frame)) (InCall (Take (Got frame))) (view_after k v (steps.Mark frame) word) h (record { cells = seated.cells; hand = seated.hand; image = seated.image }) refl refl
+        (stays_under_way (here (MarkZeros frame)) heards.Nothing h.under_way)
+        (sits_marked o.cells c cs k v frame cells word h.has))
+    fits_in (Take lease) step h is =
+        with_step (AfterStep (Take lease)) (steps.Take c.0) step is
+        (fits_take (InCall (Take lease)) lease cells h refl h.has (stays_under_way (here (Take lease)) (heards.Word word) h.under_way))
+    fits_in (Draw lease found) step h is =
+        let seated = h.belongs.seated in
+        let w : View = view_after k v steps.Draw word in
+        with_step (AfterStep (Draw lease found)) steps.Draw step is
+        (on (c ∷ cs) (InCall (Draw lease found)) (InCall (behind_draw c.1 lease found)) w h (record { cells = seated.cells; hand = seated.hand; image = seated.image }) refl refl
+        (stays_under_way (here (Draw lease found)) (heards.Word word) h.under_way)
+        (has_drawn cells found (λ (x : SeatHas). Sits x w) c.1 lease h.under_way
+        (λ zeros le. sits_draw o.cells c cs k v (leased_frame lease) cells zeros found word le h.has)))
+    fits_in (Load found loads) step h is =
+        let seated = h.belongs.seated in
+        let w : View = view_after k v (steps.Load (first_cell c.1 + length loads)) word in
+        let few = h.under_way.2 in
+        let within_page = loads_within s c.1 (h.belongs.calls.0).call in
+        let size = h.belongs.cells in
+        with_step (AfterStep (Load found loads)) (steps.Load (first_cell c.1 + length loads)) step is
+        (on (c ∷ cs) (InCall (Load found loads)) (InCall (load_from c.1 found (loads ++ word ∷ []))) w h (record { cells = seated.cells; hand = seated.hand; image = seated.image }) refl refl
+        (stays_under_way (here (Load found loads)) (heards.Word word) h.under_way)
+        (subst (λ (x : SeatHas). Sits x w) (sym (has_loads cells c.1 found h.under_way.0 (loads ++ word ∷ []) h.under_way.1))
+        (sits_load o.cells c cs k v found word loads (omega arith) h.has)))
+    fits_in (Store found loads i) step h is =
+        let seated = h.belongs.seated in
+        let value : ℕ = get_or (values_of loads c.1) i 0 in
+        let w : View = view_after k v (steps.Store (frame_in found) (first_cell c.1 + i) value) word in
+        let few = h.under_way.3 in
+        let within_page = stores_within s loads c.1 (h.belongs.calls.0).call in
+        let size = h.belongs.cells in
+        with_step (AfterStep (Store found loads i)) (steps.Store (frame_in found) (first_cell c.1 + i) value) step is
+        (on (c ∷ cs) (InCall (Store found loads i)) (InCall (store_from c.1 found loads (i + 1))) w h
+        (record { cells = seated.cells; hand = length-set v.hand (frame_of found) (with_hand_store (hand_frame v (frame_of found)) (first_cell c.1 + i) value) ∙ seated.hand; image = seated.image }) refl refl
+        (stays_under_way (here (Store found loads i)) heards.Nothing h.under_way)
+        (subst (λ (x : SeatHas). Sits x w) (sym (has_stores cells c.1 found loads h.under_way.0 h.under_way.1 (i + 1) (omega arith)))
+        (sits_store o.cells c cs k v found word loads (values_of loads c.1) i h.under_way.1 few (omega arith) h.has)))
+    fits_in (Mark found loads) step h is =
+        let seated = h.belongs.seated in
+        let w : View = view_after k v (steps.Mark (frame_in found)) word in
+        with_step (AfterStep (Mark found loads)) (steps.Mark (frame_in found)) step is
+        (on (c ∷ cs) (InCall (Mark found loads)) (InCall (Release NotAsked found loads)) w h (record { cells = seated.cells; hand = seated.hand; image = seated.image }) refl refl
+        (stays_under_way (here (Mark found loads)) heards.Nothing h.under_way)
+        (subst (λ (x : SeatHas). Sits x w) (sym (has_done cells c.1 found h.under_way.0 loads h.under_way.1))
+        (sits_mark o.cells c cs k v found word (length (values_of loads c.1)) loads (values_of loads c.1) h.has)))
+    fits_in (Map frame kind found) step h is = absurd cc
+    fits_in (Unmap found) step h is = absurd cc
+    fits_in (Release lease found loads) step h is =
+        with_step (AfterStep (Release lease found loads)) (steps.Release (Some (done lease found loads h))) step is (fits_release lease found loads h)
+
+    -- a call that begins with its take
+    fits_first : Fits s o script v (state (Between None) (c ∷ cs)) → IsUnderWay (state (behind_take (Between None) NotAsked word) (c ∷ cs))
+        → Fits s o script (view_after k v (steps.Take c.0) word) (state (behind_take (Between None) NotAsked word) (c ∷ cs))
+    fits_first h way = fits_take (Between None) NotAsked 0 h refl (record { left = h.has.left; unmarked = h.has.unmarked; held = h.has.held; hand = h.has.hand }) way
+
+  -- ---- the next step
+
+  module _ (k : Keeper) (step : Step) (word : ℕ) where
+    abbrev Then : Place → List (PageNo × Call) → Step → Type 0
+    Then place left step = Fits s o script (view_after k v step word) (owner_after (state place left) (heard_by step word))
+
+    fits_begun : (page : PageNo) (call : Call) (cs : List (PageNo × Call)) → Fits s o script v (state (Between None) ((page, call) ∷ cs)) → next_action (state (Between None) ((page, call) ∷ cs)) ≡ actions.Step step
+        → Then (Between None) ((page, call) ∷ cs) step
+    fits_begun page (Alloc kind) cs h is = absurd cc
+    fits_begun page Free cs h is = with_step (Then (Between None) ((page, Free) ∷ cs)) (steps.Take page) step is (fits_first k (page, Free) cs word h (stays_under_way (state (Between None) ((page, Free) ∷ cs)) (heards.Word word) tt))
+    fits_begun page (Read first count) cs h is = with_step (Then (Between None) ((page, Read first count) ∷ cs)) (steps.Take page) step is
+        (fits_first k (page, Read first count) cs word h (stays_under_way (state (Between None) ((page, Read first count) ∷ cs)) (heards.Word word) tt))
+    fits_begun page (Write first values) cs h is = with_step (Then (Between None) ((page, Write first values) ∷ cs)) (steps.Take page) step is
+        (fits_first k (page, Write first values) cs word h (stays_under_way (state (Between None) ((page, Write first values) ∷ cs)) (heards.Word word) tt))
+    fits_begun page (Add cell value) cs h is = with_step (Then (Between None) ((page, Add cell value) ∷ cs)) (steps.Take page) step is
+        (fits_first k (page, Add cell value) cs word h (stays_under_way (state (Between None) ((page, Add cell value) ∷ cs)) (heards.Word word) tt))
+    fits_begun page Pin cs h is = with_step (Then (Between None) ((page, Pin) ∷ cs)) (steps.Take page) step is (fits_first k (page, Pin) cs word h (stays_under_way (state (Between None) ((page, Pin) ∷ cs)) (heards.Word word) tt))
+    fits_begun page Unpin cs h is = with_step (Then (Between None) ((page, Unpin) ∷ cs)) (steps.Take page) step is (fits_first k (page, Unpin) cs word h (stays_under_way (state (Between None) ((page, Unpin) ∷ cs)) (heards.Word word) tt))
+
+    fits_then : (place : Place) (left : List (PageNo × Call)) → Fits s o script v (state place left) → next_action (state place left) ≡ actions.Step step → Then place left step
+    fits_then (Between (Some frame)) left h is = absurd cc
+    fits_then (Between None) [] h is = absurd cc
+    fits_then (Between None) (c ∷ cs) h is = fits_begun c.0 c.1 cs h is
+    fits_then (InCall at) [] h is = absurd cc
+    fits_then (InCall at) (c ∷ cs) h is = fits_in k c cs word at step h is
+
+  -- ---- the step on the mapping
+
+  abbrev Moved : Place → List (PageNo × Call) → MoveStep → Type 0
+  Moved place left step = Fits s o script (view_after_move OneOwner v step) (owner_after (state place left) heards.Nothing)
+
+  hand_sized : (held : Option Held) → length (hand_after_unmap OneOwner v held) ≡ length v.hand
+  hand_sized None = refl
+  hand_sized (Some x) = length-set v.hand (frame_of x.word) _
+
+  module _ (low : (x : Held) → v.held ≡ Some x → mapped_bit x.word ≡ 1 → frame_of x.word < o.frames) where
+    fits_moved : (c : PageNo × Call) (cs : List (PageNo × Call)) (at : CallPlace) (step : MoveStep) → Fits s o script v (state (InCall at) (c ∷ cs)) → action_at c at ≡ actions.Move step → Moved (InCall at) (c ∷ cs) step
+    fits_moved c cs (Zero frame cell) step h is = absurd cc
+    fits_moved c cs (MarkZeros frame) step h is = absurd cc
+    fits_moved c cs (Take lease) step h is = absurd cc
+    fits_moved c cs (Draw lease found) step h is = absurd cc
+    fits_moved c cs (Load found loads) step h is = absurd cc
+    fits_moved c cs (Store found loads i) step h is = absurd cc
+    fits_moved c cs (Mark found loads) step h is = absurd cc
+    fits_moved c cs (Map frame kind found) step h is =
+        let seated = h.belongs.seated in
+        let w : View = view_after_move OneOwner v (moves.Map frame kind) in
+        let first = loads_within s c.1 (h.belongs.calls.0).call in
+        let size = h.belongs.cells in
+        with_move (Moved (InCall (Map frame kind found)) (c ∷ cs)) (moves.Map frame kind) step is
+        (on (c ∷ cs) (InCall (Map frame kind found)) (InCall (Release (Got frame) found [])) w h (record { cells = seated.cells; hand = length-set v.hand frame.0 None ∙ seated.hand; image = seated.image }) refl refl
+        (stays_under_way (state (InCall (Map frame kind found)) (c ∷ cs)) heards.Nothing h.under_way)
+        (subst (λ (x : SeatHas). IsSeatWith o.cells (c ∷ cs) x w) (sym (mapped_done cells found c.1 kind frame h.under_way.0 h.under_way.1))
+        (sits_map o.cells c cs v found cells frame kind seated.cells (omega arith) h.has)))
+    fits_moved c cs (Unmap found) step h is =
+        let seated = h.belongs.seated in
+        let w : View = view_after_move OneOwner v moves.Unmap in
+        let first = loads_within s c.1 (h.belongs.calls.0).call in
+        let size = h.belongs.cells in
+        let long = seated.hand in
+        with_move (Moved (InCall (Unmap found)) (c ∷ cs)) moves.Unmap step is
+        (on (c ∷ cs) (InCall (Unmap found)) (InCall (Release NotAsked found [])) w h (record { cells = seated.cells; hand = hand_sized v.held ∙ seated.hand; image = seated.image }) refl refl
+        (stays_under_way (state (InCall (Unmap found)) (c ∷ cs)) heards.Nothing h.under_way)
+        (subst (λ (x : SeatHas). IsSeatWith o.cells (c ∷ cs) x w) (sym (unmapped_done cells found c.1 h.under_way.0 h.under_way.1))
+        (sits_unmap o.cells c cs v found seated.cells (omega arith) (freed_page found h.under_way.1).0 (λ x e m. let l = low x e m in omega arith) h.has)))
+    fits_moved c cs (Release lease found loads) step h is = absurd cc
+
+    moved_then : (place : Place) (left : List (PageNo × Call)) (step : MoveStep) → Fits s o script v (state place left) → next_action (state place left) ≡ actions.Move step → Moved place left step
+    moved_then (Between (Some frame)) left step h is = absurd cc
+    moved_then (Between None) [] step h is = absurd cc
+    moved_then (Between None) (c ∷ cs) step h is = absurd (first_moves c.0 c.1 step is)
+    moved_then (InCall at) [] step h is = absurd cc
+    moved_then (InCall at) (c ∷ cs) step h is = fits_moved c cs at step h is
+
+  -- ---- the frame space
+
+  fits_returned : (frame : FrameNo) (left : List (PageNo × Call)) → Fits s o script v (state (Between (Some frame)) left) → Fits s o script (record v { hand = hand_without v.hand frame.0 1 }) (state (Between None) left)
+  fits_returned frame left h =
+      let seated = h.belongs.seated in
+      let w : View = record v { hand = hand_without v.hand frame.0 1 } in
+      let place : frame.0 < length v.hand = within v.hand frame.0 (IsZeroed o.cells 0) (h.has.hand).1 in
+      let long : length w.hand ≡ length v.hand = ap (λ (l : List (Option HandFrame)). length l) (hand_without_one v.hand frame.0 place) ∙ length-set v.hand frame.0 None in
+      on left (Between (Some frame)) (Between None) w h (record { cells = seated.cells; hand = long ∙ seated.hand; image = seated.image }) refl refl tt (sits_returned o.cells left v frame h.has)
+
+  module _ (page : PageNo) (kind : Kind) (cs : List (PageNo × Call)) (h : Fits s o script v (state (Between None) ((page, Alloc kind) ∷ cs))) where
+    abbrev alloc : List (PageNo × Call)
+    alloc = (page, Alloc kind) ∷ cs
+
+    fits_refused : (i : ℕ) → Fits s o script v (state (InCall (Take (Refused i))) alloc)
+    fits_refused i = on alloc (Between None) (InCall (Take (Refused i))) v h h.belongs.seated refl refl (stays_under_way (state (Between None) alloc) (heards.NoFrame i) tt)
+        (record { left = h.has.left; unmarked = h.has.unmarked; held = h.has.held; hand = h.has.hand })
+
+    fits_leased : (giver : View) (frame : FrameNo) (x : HandFrame) → MayHandOver o giver v frame.0 1 → hand_frame giver frame.0 ≡ Some x → length x.stores ≡ o.cells
+        → Fits s o script (record v { hand = hand_with v.hand giver.hand frame.0 1 }) (state (InCall (zero_from cells frame 0)) alloc)
+    fits_leased giver frame x may is size =
+        let seated = h.belongs.seated in
+        let w : View = record v { hand = hand_with v.hand giver.hand frame.0 1 } in
+        let in_had : frame.0 < length v.hand = let a = may.in_range in let b = seated.hand in omega arith in
+        let in_given : frame.0 < length giver.hand = let a = may.in_range in let b = may.giver_rests.seated.hand in omega arith in
+        let long : length w.hand ≡ length v.hand = ap (λ (l : List (Option HandFrame)). length l) (hand_with_one giver.hand v.hand frame.0 in_given in_had) ∙ length-set v.hand frame.0 _ in
+        on alloc (Between None) (InCall (zero_from cells frame 0)) w h (record { cells = seated.cells; hand = long ∙ seated.hand; image = seated.image }) refl refl
+        (stays_under_way (state (Between None) alloc) (heards.Leased frame) tt)
+        (subst (λ (y : SeatHas). IsSeatWith o.cells alloc y w) (sym (has_zeros cells (Alloc kind) frame 0 (omega arith))) (sits_leased o.cells alloc v giver frame x in_given in_had is size h.has))
+
+-- ---- any action
+
+module _ (s : Sizes) (o : Opening) (v : View) (script : List (PageNo × Call)) (a : OwnerState) (h : Fits s o script v a) where
+  pub fits_after_step : (k : Keeper) (step : Step) (found : ℕ) → next_action a ≡ actions.Step step → Fits s o script (view_after k v step found) (owner_after a (heard_by step found))
+  fits_after_step k step found is = fits_then s o script v a.owner a.cells k step found a.place a.left h is
+
+  pub fits_after_move : (words : List ℕ) (views : List View) (seat : ℕ) (step : MoveStep) → Has views seat v → Sound o words views → next_action a ≡ actions.Move step → Fits s o script (view_after_move OneOwner v step) (owner_after a heards.Nothing)
+  fits_after_move words views seat step has sound is = moved_then s o script v a.owner a.cells (old_low o words views sound seat v has) a.place a.left step h is
+
+  -- the owner stands before an alloc
+  module _ (page : PageNo) (kind : Kind) (is : next_action a ≡ actions.Space (Lease page kind)) where
+    abbrev there : Place → List (PageNo × Call) → OwnerState
+    there place left = record { owner = a.owner; cells = a.cells; left = left; place = place }
+
+    before_alloc : (P : OwnerState → Type 0) → ((cs : List (PageNo × Call)) → Fits s o script v (there (Between None) ((page, Alloc kind) ∷ cs)) → P (there (Between None) ((page, Alloc kind) ∷ cs))) → P a
+    before_alloc P f =
+        let r = leases_at a.place a.left page kind is in
+        let same : a ≡ there (Between None) ((page, Alloc kind) ∷ r.rest) = λ i. there (r.place_is i) (r.left_is i) in
+        subst P (sym same) (f r.rest (subst (λ (x : OwnerState). Fits s o script v x) same h))
+
+    pub fits_after_refusal : (i : ℕ) → Fits s o script v (owner_after a (heards.NoFrame i))
+    fits_after_refusal i = before_alloc (λ (x : OwnerState). Fits s o script v (owner_after x (heards.NoFrame i))) (λ cs g. fits_refused s o script v a.owner a.cells page kind cs g i)
+
+    pub fits_after_lease : (giver : View) (frame : FrameNo) (x : HandFrame) → MayHandOver o giver v frame.0 1 → hand_frame giver frame.0 ≡ Some x → length x.stores ≡ o.cells
+        → Fits s o script (record v { hand = hand_with v.hand giver.hand frame.0 1 }) (owner_after a (heards.Leased frame))
+    fits_after_lease giver frame x may given size =
+        before_alloc (λ (y : OwnerState). Fits s o script (record v { hand = hand_with v.hand giver.hand frame.0 1 }) (owner_after y (heards.Leased frame)))
+        (λ cs g. fits_leased s o script v a.owner a.cells page kind cs g giver frame x may given size)
+
+  pub fits_after_return : (frame : FrameNo) → next_action a ≡ actions.Space (Return frame) → Fits s o script (record v { hand = hand_without v.hand frame.0 1 }) (owner_after a heards.Nothing)
+  fits_after_return frame is =
+      let same : a ≡ record a { place = Between (Some frame) } = λ i. record a { place = returns_at a.place a.left frame is i } in
+      subst (λ (x : OwnerState). Fits s o script (record v { hand = hand_without v.hand frame.0 1 }) (owner_after x heards.Nothing)) (sym same)
+      (fits_returned s o script v a.owner a.cells frame a.left (subst (λ (x : OwnerState). Fits s o script v x) same h))

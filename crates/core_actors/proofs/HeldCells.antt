@@ -1,5 +1,5 @@
--- The cells of a call are cells of its page, and what is stored there.
-use Rattle.std.proofs.Common.{◌≡◌, ℕ, zero, suc, eqb, eq-eqb, ◌+◌, ◌≤◌, ◌==◌, Bool, true, List, [], ◌∷◌, length, take, bit_or, refl, ap, ◌∙◌, arith, if◌then◌else◌}
+-- The cells of a call are cells of its page.
+use Rattle.std.proofs.Common.{◌≡◌, ℕ, eqb, eq-eqb, ◌+◌, ◌≤◌, ◌==◌, Bool, true, List, length, bit_or, ap, ◌∙◌, arith, if◌then◌else◌}
 use Rattle.evac_model.specs.declared.call.Call.{Call}
 use Rattle.evac_model.specs.declared.call.Call.TheVariants.{Alloc, Free, Read, Write, Add, Pin, Unpin}
 use Rattle.evac_model.specs.Geometry.{Sizes}
@@ -8,8 +8,6 @@ use Rattle.evac_words.specs.Word.{mapped_bit, frame_of}
 use Rattle.core_state.specs.Views.{maps_to}
 use Rattle.core_state.proofs.EntryWords.{same_flags-take}
 use Rattle.core_actors.specs.CallSteps.{first_cell, load_count, values_of}
-use Rattle.core_actors.specs.Owners.{OwnerState}
-use Rattle.core_actors.specs.Fits.{past_loads, stored}
 
 pub loads_few : (s : Sizes) (call : Call) → IsCallFor s call → load_count call ≤ 8
 loads_few s (Alloc kind) fits = omega arith
@@ -37,15 +35,6 @@ stores_within s loads (Write first values) fits = fits.2
 stores_within s loads (Add cell value) fits = omega arith
 stores_within s loads Pin fits = omega arith
 stores_within s loads Unpin fits = omega arith
-
-all_taken : (xs : List ℕ) (k : ℕ) → length xs ≤ k → take k xs ≡ xs
-all_taken [] zero le = refl
-all_taken [] (suc k) le = refl
-all_taken (x ∷ xs) zero le = absurd (omega arith)
-all_taken (x ∷ xs) (suc k) le = ap (λ (l : List ℕ). x ∷ l) (all_taken xs k (omega arith))
-
-pub stored_all : (a : OwnerState) (call : Call) → length (values_of a.loads call) ≤ past_loads a call → stored a call ≡ values_of a.loads call
-stored_all a call le = all_taken (values_of a.loads call) (past_loads a call) le
 
 -- the held word maps the frame that the take found
 pub maps_here : (w : ℕ) → mapped_bit w ≡ 1 → maps_to (frame_of w) (bit_or w 1) ≡ 1

@@ -15,10 +15,7 @@ use Rattle.evac_model.specs.DeviceAnswer.{block_at, is_good_range, request_in}
 use Rattle.evac_model.specs.HostCommands.{BlockRange, plugged_by}
 use Rattle.core_actors.specs.declared.action.Heard.{Heard}
 use Rattle.core_actors.specs.Hosts.{HostState, host_ended, result_in, plugged_in, with_result, but_first, host_after, host_actions_left, IsHostUnderWay}
-
-either : {A : Type 0} (P : A → Type 0) (b : Bool) (x y : A) → (b ≡ true → P x) → (b ≡ false → P y) → P (if b then x else y)
-either P true x y at_true at_false = at_true refl
-either P false x y at_true at_false = at_false refl
+use Rattle.core_actors.proofs.Cases.{if_then}
 
 some_count : (n : ℕ) → (n ≡ 0 → ⊥) → 1 ≤ n
 some_count zero other = absurd (other refl)
@@ -26,7 +23,7 @@ some_count (suc n) other = omega arith
 
 -- a fact of a value that is chosen by a count
 by_count : {A : Type 0} (P : A → Type 0) (n : ℕ) (x y : A) → (n ≡ 0 → P x) → (1 ≤ n → P y) → P (if n == 0 then x else y)
-by_count P n x y none some = either P (n == 0) x y (λ e. none (eqb-true n 0 e)) (λ e. some (some_count n (eqb-false n 0 e)))
+by_count P n x y none some = if_then P (n == 0) x y (λ e. none (eqb-true n 0 e)) (λ e. some (some_count n (eqb-false n 0 e)))
 
 -- ---- the blocks that a request plugged are managed ones
 
@@ -38,7 +35,7 @@ good_within s addr count good = grind (arith, nat_tests, good)
 
 plugged_by_within : (s : Sizes) (request : Option Request) (response : Response) → IsWithin s (plugged_by s request response)
 plugged_by_within s None response = omega arith
-plugged_by_within s (Some (Plug addr count)) (Ack state) = either (λ (r : BlockRange). IsWithin s r) (is_good_range s addr count) _ _ (good_within s addr count) (λ e. omega arith)
+plugged_by_within s (Some (Plug addr count)) (Ack state) = if_then (λ (r : BlockRange). IsWithin s r) (is_good_range s addr count) _ _ (good_within s addr count) (λ e. omega arith)
 plugged_by_within s (Some (Plug addr count)) Nack = omega arith
 plugged_by_within s (Some (Plug addr count)) Busy = omega arith
 plugged_by_within s (Some (Plug addr count)) Error = omega arith

@@ -1,187 +1,152 @@
--- An owner stays under way after each of its actions.
-use Rattle.std.proofs.Common.{◌≡◌, ◌≢◌, ◌⊎◌, inl, inr, ⊎_elim, ℕ, ◌+◌, ◌-◌, ◌<◌, ◌≤◌, min, List, [], ◌∷◌, ◌++◌, length, length-append, refl, sym, ap, ◌∙◌, subst, arith, Option, None, Some}
-use mathlib.Core.Logic.{dite}
-use native.Mathlib.Decide.{ℕ_discrete, dec_lt}
+-- An owner under way stays so after each of its actions, whatever that gives.
+use Rattle.std.proofs.Common.{◌≡◌, ◌≢◌, ℕ, eqb-true, ◌+◌, ◌<◌, ◌≤◌, ◌==◌, nat_lt, Bool, true, false, List, [], ◌∷◌, ◌++◌, length, length-append, refl, arith, Option, Some, None, if◌then◌else◌}
+use Rattle.std.proofs.lemmas.Bool.{eqb-false}
+use Rattle.std.proofs.lemmas.Bool.Decides.{nat_tests}
 use Rattle.evac_model.specs.declared.names.FrameNo.{FrameNo}
 use Rattle.evac_model.specs.declared.names.Kind.{Kind}
 use Rattle.evac_model.specs.declared.names.PageNo.{PageNo}
 use Rattle.evac_model.specs.declared.call.Call.{Call}
 use Rattle.evac_model.specs.declared.call.Call.TheVariants.{Alloc, Free, Read, Write, Add, Pin, Unpin}
-use Rattle.evac_words.specs.Word.{taken_bit}
-use Rattle.core_state.specs.declared.step.MoveStep.{MoveStep}
-use Rattle.core_state.specs.declared.step.Step.{Step}
-use Rattle.core_state.specs.declared.step.Step.TheVariants.{Take, Draw, Load, Store, Mark, Release}
-use Rattle.core_actors.specs.declared.action.Action.{Action}
-use Rattle.core_actors.specs.declared.action.Action.TheVariants as actions
+use Rattle.evac_words.specs.Word.{taken_bit, mapped_bit}
 use Rattle.core_actors.specs.declared.action.Heard.{Heard}
-use Rattle.core_actors.specs.declared.action.Heard.TheVariants.{Nothing, Leased, NoFrame}
+use Rattle.core_actors.specs.declared.action.Heard.TheVariants as heards
 use Rattle.core_actors.specs.declared.action.LeaseSeen.{LeaseSeen}
-use Rattle.core_actors.specs.declared.action.LeaseSeen.TheVariants.{NotAsked}
-use Rattle.core_actors.specs.declared.action.SpaceCall.TheVariants.{Lease, Return, Online}
-use Rattle.core_actors.specs.CallSteps.{load_count, lead_actions, call_actions}
-use Rattle.core_actors.specs.Owners.{OwnerState, before_call, next_action, word_in, lease_in, after_step, after_action, owner_after}
-use Rattle.core_actors.specs.Counts.{HeardOfLease, IsUnderWayIn, IsUnderWay}
-use Rattle.core_actors.proofs.Stands.{IsAlloc, Between, StandsHere, stands, lead-some, lead-none, length-call, length-call-alike}
+use Rattle.core_actors.specs.declared.action.LeaseSeen.TheVariants.{NotAsked, Got, Refused}
+use Rattle.core_actors.specs.declared.place.Place.{Place}
+use Rattle.core_actors.specs.declared.place.Place.TheVariants.{Between, InCall}
+use Rattle.core_actors.specs.declared.place.CallPlace.{CallPlace}
+use Rattle.core_actors.specs.declared.place.CallPlace.TheVariants.{Zero, MarkZeros, Take, Draw, Load, Store, Mark, Map, Unmap, Release}
+use Rattle.core_actors.specs.CallSteps.{load_count, values_of, is_freed}
+use Rattle.core_actors.specs.Places.{word_in, lease_in, zero_from, behind_lease, behind_take, store_from, behind_loads, load_from, cells_behind, map_behind, behind_draw, behind_first, place_behind, calls_behind}
+use Rattle.core_actors.specs.Owners.{OwnerState, owner_after}
+use Rattle.core_actors.specs.Counts.{IsAlloc, NamesCells, IsLeaseOf, ComesTo, IsPlaced, IsUnderWay}
+use Rattle.core_actors.proofs.Cases.{if_then}
 
--- ---- before a call
+pub cells_no_lease : (call : Call) → NamesCells call → IsLeaseOf call NotAsked
+cells_no_lease (Alloc kind) names = absurd names
+cells_no_lease Free names = absurd names
+cells_no_lease (Read first count) names = refl
+cells_no_lease (Write first values) names = refl
+cells_no_lease (Add cell value) names = refl
+cells_no_lease Pin names = absurd names
+cells_no_lease Unpin names = absurd names
 
-heard_first : (call : Call) → HeardOfLease call 0 NotAsked
-heard_first (Alloc kind) = ((λ e. refl), (λ e. refl))
-heard_first Free = refl
-heard_first (Read first count) = refl
-heard_first (Write first values) = refl
-heard_first (Add cell value) = refl
-heard_first Pin = refl
-heard_first Unpin = refl
+alloc_leases : (call : Call) (lease : LeaseSeen) → IsAlloc call → lease ≢ NotAsked → IsLeaseOf call lease
+alloc_leases (Alloc kind) lease alloc some = some
+alloc_leases Free lease alloc some = absurd alloc
+alloc_leases (Read first count) lease alloc some = absurd alloc
+alloc_leases (Write first values) lease alloc some = absurd alloc
+alloc_leases (Add cell value) lease alloc some = absurd alloc
+alloc_leases Pin lease alloc some = absurd alloc
+alloc_leases Unpin lease alloc some = absurd alloc
 
-before_call-in : (owner cells : ℕ) (calls : List (PageNo × Call)) (back : Option FrameNo) → IsUnderWayIn calls (before_call owner cells calls back)
-before_call-in owner cells [] back = refl
-before_call-in owner cells (c ∷ cs) back = let long = length-call cells c.0 c.1 NotAsked 0 [] in (omega arith, omega arith, heard_first c.1)
+lease_heard : (heard : Heard) → lease_in heard ≢ NotAsked
+lease_heard heards.Start e = cc
+lease_heard (heards.Word word) e = cc
+lease_heard heards.Nothing e = cc
+lease_heard (heards.Leased frame) e = cc
+lease_heard (heards.NoFrame at) e = cc
+lease_heard (heards.Device heard) e = cc
 
-pub before_call-way : (owner cells : ℕ) (calls : List (PageNo × Call)) (back : Option FrameNo) → IsUnderWay (before_call owner cells calls back)
-before_call-way owner cells calls back = record { call = before_call-in owner cells calls back; back_first = λ some. refl }
+-- ---- each place that a call comes to
 
--- ---- what was heard of the lease
+module _ (cells : ℕ) (call : Call) where
+  come_zero : (frame : FrameNo) (cell : ℕ) → IsAlloc call → ComesTo cells call (zero_from cells frame cell)
+  come_zero frame cell alloc = if_then (ComesTo cells call) (nat_lt cell cells) (Zero frame cell) (MarkZeros frame) (λ t. (alloc, grind (arith, nat_tests))) (λ f. alloc)
 
-heard_more : (call : Call) (made : ℕ) (lease : LeaseSeen) → (IsAlloc call → 0 < made) → HeardOfLease call made lease → HeardOfLease call (made + 1) lease
-heard_more (Alloc kind) made lease later heard = let some = later tt in ((λ e. let z = heard.0 e in absurd (omega arith)), (λ e. absurd (omega arith)))
-heard_more Free made lease later heard = heard
-heard_more (Read first count) made lease later heard = heard
-heard_more (Write first values) made lease later heard = heard
-heard_more (Add cell value) made lease later heard = heard
-heard_more Pin made lease later heard = heard
-heard_more Unpin made lease later heard = heard
+  come_lease : (lease : LeaseSeen) → IsAlloc call → lease ≢ NotAsked → ComesTo cells call (behind_lease cells lease)
+  come_lease NotAsked alloc some = absurd (some refl)
+  come_lease (Got frame) alloc some = come_zero frame 0 alloc
+  come_lease (Refused at) alloc some = (alloc, some)
 
-heard_once : (call : Call) (lease : LeaseSeen) → IsAlloc call → lease ≢ NotAsked → HeardOfLease call (0 + 1) lease
-heard_once (Alloc kind) lease is other = ((λ e. absurd (other e)), (λ e. absurd (omega arith)))
-heard_once Free lease is other = absurd is
-heard_once (Read first count) lease is other = absurd is
-heard_once (Write first values) lease is other = absurd is
-heard_once (Add cell value) lease is other = absurd is
-heard_once Pin lease is other = absurd is
-heard_once Unpin lease is other = absurd is
+  module _ (found : ℕ) (loads : List ℕ) (names : NamesCells call) (mapped : mapped_bit found ≡ 1) where
+    come_store : (i : ℕ) → length loads ≡ load_count call → 0 < length (values_of loads call) → ComesTo cells call (store_from call found loads i)
+    come_store i all some = if_then (ComesTo cells call) (nat_lt i (length (values_of loads call))) (Store found loads i) (Mark found loads) (λ t. (names, mapped, all, grind (arith, nat_tests))) (λ f. (names, mapped, all, some))
 
-alloc_loads-none : (call : Call) → IsAlloc call → load_count call ≡ 0
-alloc_loads-none (Alloc kind) is = refl
-alloc_loads-none Free is = absurd is
-alloc_loads-none (Read first count) is = absurd is
-alloc_loads-none (Write first values) is = absurd is
-alloc_loads-none (Add cell value) is = absurd is
-alloc_loads-none Pin is = absurd is
-alloc_loads-none Unpin is = absurd is
+    come_loads : length loads ≡ load_count call → ComesTo cells call (behind_loads call found loads)
+    come_loads all = if_then (ComesTo cells call) (length (values_of loads call) == 0) (Release NotAsked found loads) (Store found loads 0)
+        (λ t. (cells_no_lease call names, λ e. all))
+        (λ f. let some = eqb-false (length (values_of loads call)) 0 f in (names, mapped, all, omega arith))
 
--- ---- in a call
+    come_load : length loads ≤ load_count call → ComesTo cells call (load_from call found loads)
+    come_load le = if_then (ComesTo cells call) (nat_lt (length loads) (load_count call)) (Load found loads) (behind_loads call found loads)
+        (λ t. (names, mapped, grind (arith, nat_tests)))
+        (λ f. come_loads (grind (arith, nat_tests)))
 
-module _ (owner cells : ℕ) (c : PageNo × Call) (cs : List (PageNo × Call)) (lease : LeaseSeen) (found : ℕ) (loads : List ℕ) (made : ℕ) where
-  abbrev pub in_call : OwnerState
-  in_call = record { owner = owner; cells = cells; left = c ∷ cs; lease = lease; found = found; loads = loads; made = made; back = None }
+  come_cells : (found : ℕ) → NamesCells call → ComesTo cells call (cells_behind call found)
+  come_cells found names = if_then (ComesTo cells call) (mapped_bit found == 1) (load_from call found []) (Release NotAsked found [])
+      (λ t. come_load found [] names (eqb-true (mapped_bit found) 1 t) (omega arith))
+      (λ f. (cells_no_lease call names, λ mapped. absurd (eqb-false (mapped_bit found) 1 f mapped)))
 
-  abbrev pub StandsNow : Action → Type 0
-  StandsNow = StandsHere cells c.0 c.1 lease found loads made
+come_map : (cells : ℕ) (kind : Kind) (lease : LeaseSeen) (found : ℕ) → lease ≢ NotAsked → ComesTo cells (Alloc kind) (map_behind kind lease found)
+come_map cells kind NotAsked found some = absurd (some refl)
+come_map cells kind (Got frame) found some = if_then (ComesTo cells (Alloc kind)) (mapped_bit found == 1) (Release (Got frame) found []) (Map frame kind found)
+    (λ t. (some, λ mapped. refl))
+    (λ f. (refl, eqb-false (mapped_bit found) 1 f))
+come_map cells kind (Refused at) found some = (some, λ mapped. refl)
 
-  pub stands_now : IsUnderWay in_call → StandsNow (next_action in_call)
-  stands_now way = stands cells c.0 c.1 lease found loads made way.call.0
+come_draw : (cells : ℕ) (call : Call) (lease : LeaseSeen) (found : ℕ) → IsLeaseOf call lease → ComesTo cells call (behind_draw call lease found)
+come_draw cells (Alloc kind) lease found is = come_map cells kind lease found is
+come_draw cells Free lease found is = if_then (ComesTo cells Free) (is_freed found) (Unmap found) (Release NotAsked found []) (λ t. (refl, t)) (λ f. (refl, λ mapped. refl))
+come_draw cells (Read first count) lease found is = come_cells cells (Read first count) found tt
+come_draw cells (Write first values) lease found is = come_cells cells (Write first values) found tt
+come_draw cells (Add cell value) lease found is = come_cells cells (Add cell value) found tt
+come_draw cells Pin lease found is = (refl, λ mapped. refl)
+come_draw cells Unpin lease found is = (refl, λ mapped. refl)
 
-  -- with loads, the take is the first action
-  no_loads_yet : (n : ℕ) → n ≡ length (lead_actions cells c.0 c.1 lease) ⊎ n ≡ length (lead_actions cells c.0 c.1 lease) + 1 → min (n + 1 - 2) (load_count c.1) ≡ min (n - 2) (load_count c.1)
-  no_loads_yet n at = dite (dec_lt 0 (load_count c.1))
-      (λ some. let first = lead-none cells c.0 c.1 lease some in ⊎_elim (λ e. omega arith) (λ e. omega arith) at)
-      (λ none. omega arith)
+-- ---- the owner
 
-  after_take-way : (word : ℕ) → IsUnderWay in_call → made ≡ length (lead_actions cells c.0 c.1 lease) → IsUnderWay (record in_call { found = word; made = made + 1 })
-  after_take-way word way at =
-      let long = length-call cells c.0 c.1 lease word loads in
-      let same = no_loads_yet made (inl at) in
-      let heard = heard_more c.1 made lease (λ is. let some = lead-some cells c.0 c.1 lease is in omega arith) way.call.2 in
-      let many = way.call.1 in
-      record { call = (omega arith, many ∙ sym same, heard); back_first = λ some. absurd (some refl) }
+module _ (owner cells : ℕ) where
+  come_take : (c : PageNo × Call) (cs : List (PageNo × Call)) (here : Place) (lease : LeaseSeen) (word : ℕ) → IsPlaced cells here (c ∷ cs) → IsLeaseOf c.1 lease → IsPlaced cells (behind_take here lease word) (c ∷ cs)
+  come_take c cs here lease word at is = if_then (λ (p : Place). IsPlaced cells p (c ∷ cs)) (taken_bit word == 0) (InCall (Draw lease word)) here (λ t. is) (λ f. at)
 
-  one_made-way : 0 < made → min (made + 1 - 2) (load_count c.1) ≡ min (made - 2) (load_count c.1) → made + 1 < length (call_actions cells c.0 c.1 lease found loads) → IsUnderWay in_call
-      → IsUnderWay (record in_call { made = made + 1 })
-  one_made-way later same more way =
-      let many = way.call.1 in
-      record { call = (more, many ∙ sym same, heard_more c.1 made lease (λ is. later) way.call.2); back_first = λ some. absurd (some refl) }
+  come_first : (page : PageNo) (call : Call) (cs : List (PageNo × Call)) (heard : Heard) → IsPlaced cells (behind_first cells call heard) ((page, call) ∷ cs)
+  come_first page (Alloc kind) cs heard = come_lease cells (Alloc kind) (lease_in heard) tt (lease_heard heard)
+  come_first page Free cs heard = come_take (page, Free) cs (Between None) NotAsked (word_in heard) tt refl
+  come_first page (Read first count) cs heard = come_take (page, Read first count) cs (Between None) NotAsked (word_in heard) tt refl
+  come_first page (Write first values) cs heard = come_take (page, Write first values) cs (Between None) NotAsked (word_in heard) tt refl
+  come_first page (Add cell value) cs heard = come_take (page, Add cell value) cs (Between None) NotAsked (word_in heard) tt refl
+  come_first page Pin cs heard = come_take (page, Pin) cs (Between None) NotAsked (word_in heard) tt refl
+  come_first page Unpin cs heard = come_take (page, Unpin) cs (Between None) NotAsked (word_in heard) tt refl
 
-  between-way : Between c.1 made (length (call_actions cells c.0 c.1 lease found loads)) → IsUnderWay in_call → IsUnderWay (record in_call { made = made + 1 })
-  between-way at way = let e : made + 1 - 2 ≡ made - 1 = omega arith in one_made-way at.0 (ap (λ (k : ℕ). min k (load_count c.1)) e ∙ at.1) at.2 way
+  come_on : (c : PageNo × Call) (cs : List (PageNo × Call)) (at : CallPlace) (heard : Heard) → ComesTo cells c.1 at → IsPlaced cells (place_behind cells c.1 at heard) (calls_behind c cs at)
+  come_on c cs (Zero frame cell) heard at = come_zero cells c.1 frame (cell + 1) at.0
+  come_on c cs (MarkZeros frame) heard at = (at, λ e. cc)
+  come_on c cs (Take lease) heard at = come_take c cs (InCall (Take lease)) lease (word_in heard) at (alloc_leases c.1 lease at.0 at.1)
+  come_on c cs (Draw lease found) heard at = come_draw cells c.1 lease found at
+  come_on c cs (Load found loads) heard at =
+      let few = at.2 in
+      come_load cells c.1 found (loads ++ word_in heard ∷ []) at.0 at.1 (let more = length-append loads (word_in heard ∷ []) in omega arith)
+  come_on c cs (Store found loads i) heard at = come_store cells c.1 found loads at.0 at.1 (i + 1) at.2 (let lt = at.3 in omega arith)
+  come_on c cs (Mark found loads) heard at = (cells_no_lease c.1 at.0, λ mapped. at.2)
+  come_on c cs (Map frame kind found) heard at = (map_lease c.1 at.0, λ mapped. absurd (at.1 mapped))
+    where
+      map_lease : (call : Call) → call ≡ Alloc kind → IsLeaseOf call (Got frame)
+      map_lease (Alloc other) e = λ f. cc
+      map_lease Free e = absurd cc
+      map_lease (Read first count) e = absurd cc
+      map_lease (Write first values) e = absurd cc
+      map_lease (Add cell value) e = absurd cc
+      map_lease Pin e = absurd cc
+      map_lease Unpin e = absurd cc
+  come_on c cs (Unmap found) heard at = free_ends c.1 at.0
+    where
+      free_ends : (call : Call) → call ≡ Free → ComesTo cells call (Release NotAsked found [])
+      free_ends (Alloc kind) e = absurd cc
+      free_ends Free e = (refl, λ mapped. refl)
+      free_ends (Read first count) e = absurd cc
+      free_ends (Write first values) e = absurd cc
+      free_ends (Add cell value) e = absurd cc
+      free_ends Pin e = absurd cc
+      free_ends Unpin e = absurd cc
+  come_on c cs (Release lease found loads) heard at = tt
 
-  after_load-way : (word : ℕ) → IsUnderWay in_call → 2 ≤ made → made < 2 + load_count c.1 → made + 1 < length (call_actions cells c.0 c.1 lease found loads)
-      → IsUnderWay (record in_call { loads = loads ++ word ∷ []; made = made + 1 })
-  after_load-way word way two below more =
-      let long = length-call-alike cells c.0 c.1 lease found (loads ++ word ∷ []) loads in
-      let many = way.call.1 in
-      let longer = length-append loads (word ∷ []) in
-      record { call = (omega arith, omega arith, heard_more c.1 made lease (λ is. omega arith) way.call.2); back_first = λ some. absurd (some refl) }
+  stays_at : (place : Place) (left : List (PageNo × Call)) (heard : Heard) → IsPlaced cells place left → IsUnderWay (owner_after (record { owner = owner; cells = cells; left = left; place = place }) heard)
+  stays_at (Between (Some frame)) left heard at = tt
+  stays_at (Between None) [] heard at = tt
+  stays_at (Between None) ((page, call) ∷ cs) heard at = come_first page call cs heard
+  stays_at (InCall at) [] heard way = absurd way
+  stays_at (InCall at) (c ∷ cs) heard way = come_on c cs at heard way
 
-  after_step-way : (step : Step) (word : ℕ) → IsUnderWay in_call → StandsNow (actions.Step step) → IsUnderWay (after_step in_call word step)
-  after_step-way (Take page) word way at = dite (ℕ_discrete (taken_bit word) 0)
-      (λ free. rw free (after_take-way word way at))
-      (λ no. let one : taken_bit word ≡ 1 = omega arith in rw one way)
-  after_step-way Draw word way at =
-      let long = length-call cells c.0 c.1 lease found loads in
-      one_made-way (omega arith) (no_loads_yet made (inr at)) (omega arith) way
-  after_step-way (Load cell) word way at = after_load-way word way at.0 at.1 at.2
-  after_step-way (Store frame cell value) word way at = between-way at way
-  after_step-way (Mark frame) word way at = between-way at way
-  after_step-way (Release end) word way at = before_call-way owner cells cs _
-
-  after_lease-way : (given : LeaseSeen) → given ≢ NotAsked → IsUnderWay in_call → made ≡ 0 → IsAlloc c.1 → IsUnderWay (record in_call { lease = given; made = made + 1 })
-  after_lease-way given other way first is =
-      let long = length-call cells c.0 c.1 given found loads in
-      let none = alloc_loads-none c.1 is in
-      let many = way.call.1 in
-      let some = lead-some cells c.0 c.1 given is in
-      record { call = (omega arith, omega arith, subst (λ (k : ℕ). HeardOfLease c.1 (k + 1) given) (sym first) (heard_once c.1 given is other)); back_first = λ no. absurd (no refl) }
-
--- ---- after an action
-
-abbrev pub IsLease : Action → Type 0
-IsLease (actions.Step step) = ⊥
-IsLease (actions.Move step) = ⊥
-IsLease (actions.Space (Lease page kind)) = Unit {0}
-IsLease (actions.Space (Return frame)) = ⊥
-IsLease (actions.Space (Online block)) = ⊥
-IsLease (actions.Device call) = ⊥
-IsLease actions.Ended = ⊥
-
-module _ (owner cells : ℕ) (c : PageNo × Call) (cs : List (PageNo × Call)) (lease : LeaseSeen) (found : ℕ) (loads : List ℕ) (made : ℕ) where
-  after_action-way : (action : Action) (heard : Heard) → (IsLease action → lease_in heard ≢ NotAsked) → StandsNow owner cells c cs lease found loads made action
-      → IsUnderWay (in_call owner cells c cs lease found loads made) → IsUnderWay (after_action (in_call owner cells c cs lease found loads made) heard action)
-  after_action-way (actions.Step step) heard fits at way = after_step-way owner cells c cs lease found loads made step (word_in heard) way at
-  after_action-way (actions.Move step) heard fits at way = between-way owner cells c cs lease found loads made at way
-  after_action-way (actions.Space (Lease page kind)) heard fits at way = after_lease-way owner cells c cs lease found loads made (lease_in heard) (fits tt) way at.0 at.1
-  after_action-way (actions.Space (Return frame)) heard fits at way = absurd at
-  after_action-way (actions.Space (Online block)) heard fits at way = absurd at
-  after_action-way (actions.Device call) heard fits at way = absurd at
-  after_action-way actions.Ended heard fits at way = absurd at
-
-module _ (owner cells : ℕ) (lease : LeaseSeen) (found : ℕ) (loads : List ℕ) (made : ℕ) where
-  abbrev with_left : List (PageNo × Call) → Option FrameNo → OwnerState
-  with_left left back = record { owner = owner; cells = cells; left = left; lease = lease; found = found; loads = loads; made = made; back = back }
-
-  after-with : (left : List (PageNo × Call)) (back : Option FrameNo) (heard : Heard) → (IsLease (next_action (with_left left back)) → lease_in heard ≢ NotAsked) → IsUnderWay (with_left left back)
-      → IsUnderWay (owner_after (with_left left back) heard)
-  after-with [] None heard fits way = way
-  after-with [] (Some frame) heard fits way = record { call = way.call; back_first = λ some. absurd (some refl) }
-  after-with (c ∷ cs) None heard fits way =
-      after_action-way owner cells c cs lease found loads made (next_action (with_left (c ∷ cs) None)) heard fits (stands_now owner cells c cs lease found loads made way) way
-  after-with (c ∷ cs) (Some frame) heard fits way = record { call = way.call; back_first = λ some. absurd (some refl) }
-
--- whatever is heard, but of a lease what it gave
-pub way_after : (a : OwnerState) (heard : Heard) → (IsLease (next_action a) → lease_in heard ≢ NotAsked) → IsUnderWay a → IsUnderWay (owner_after a heard)
-way_after a heard fits way = after-with a.owner a.cells a.lease a.found a.loads a.made a.left a.back heard fits way
-
-not_lease : (action other : Action) → other ≡ action → (IsLease action → ⊥) → IsLease other → ⊥
-not_lease action other is never lease = never (subst (λ (x : Action). IsLease x) is lease)
-
-pub way_after_step : (a : OwnerState) (step : Step) (heard : Heard) → IsUnderWay a → next_action a ≡ actions.Step step → IsUnderWay (owner_after a heard)
-way_after_step a step heard way is = way_after a heard (λ yes. absurd (not_lease (actions.Step step) (next_action a) is (λ never. never) yes)) way
-
-pub way_after_move : (a : OwnerState) (step : MoveStep) → IsUnderWay a → next_action a ≡ actions.Move step → IsUnderWay (owner_after a Nothing)
-way_after_move a step way is = way_after a Nothing (λ yes. absurd (not_lease (actions.Move step) (next_action a) is (λ never. never) yes)) way
-
-pub way_after_leased : (a : OwnerState) (page : PageNo) (kind : Kind) (frame : FrameNo) → IsUnderWay a → next_action a ≡ actions.Space (Lease page kind) → IsUnderWay (owner_after a (Leased frame))
-way_after_leased a page kind frame way is = way_after a (Leased frame) (λ yes e. absurd (cc)) way
-
-pub way_after_refused : (a : OwnerState) (page : PageNo) (kind : Kind) (at : ℕ) → IsUnderWay a → next_action a ≡ actions.Space (Lease page kind) → IsUnderWay (owner_after a (NoFrame at))
-way_after_refused a page kind at way is = way_after a (NoFrame at) (λ yes e. absurd (cc)) way
+pub stays_under_way : (a : OwnerState) (heard : Heard) → IsUnderWay a → IsUnderWay (owner_after a heard)
+stays_under_way a heard way = stays_at a.owner a.cells a.place a.left heard way

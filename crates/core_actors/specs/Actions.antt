@@ -1,12 +1,12 @@
 -- What an owner hears, and what it does.
-use Rattle.std.specs.Prelude.{Bool, ℕ, ◌<◌, ◌^◌, if◌then◌else◌, ⊤}
+use Rattle.std.specs.Prelude.{Bool, ℕ, ◌<◌, ◌^◌, ⊤}
 use Rattle.core_state.specs.declared.step.Step.{Step}
 use Rattle.core_state.specs.declared.step.Step.TheVariants.{Take, Draw, Load, Store, Mark, Release}
 use Rattle.core_actors.specs.declared.action.Action.{Action}
 use Rattle.core_actors.specs.declared.action.Action.TheVariants as actions
 use Rattle.core_actors.specs.declared.action.Heard.{Heard}
 use Rattle.core_actors.specs.declared.action.Heard.TheVariants.{Start, Word, Nothing}
-use Rattle.core_actors.specs.Owners.{OwnerState, owner_ended, next_action, owner_after}
+use Rattle.core_actors.specs.Owners.{OwnerState, owner_ended, owner_after}
 
 -- the owner once it has heard of the action that it was to make
 abbrev pub owner_heard : OwnerState → Heard → OwnerState
@@ -22,10 +22,6 @@ heard_by (Store frame cell value) found = Nothing
 heard_by (Mark frame) found = Nothing
 heard_by (Release end) found = Nothing
 
--- the owner's next action, or that it has ended
-abbrev pub action_of : OwnerState → Action
-action_of a = if owner_ended a then actions.Ended else next_action a
-
 -- No action is left behind the next one. The last action of a script ends it, whatever it gives: it is a
 -- release or a return.
 abbrev pub ends_with_next : OwnerState → Bool
@@ -39,3 +35,10 @@ IsStorable (Load cell) = ⊤
 IsStorable (Store frame cell value) = value < 2 ^ 64
 IsStorable (Mark frame) = ⊤
 IsStorable (Release end) = ⊤
+
+abbrev pub IsStorableAction : Action → Type 0
+IsStorableAction (actions.Step step) = IsStorable step
+IsStorableAction (actions.Move step) = ⊤
+IsStorableAction (actions.Space call) = ⊤
+IsStorableAction (actions.Device call) = ⊤
+IsStorableAction actions.Ended = ⊤

@@ -1,9 +1,10 @@
 pub mod CallSteps
+pub mod Places
 pub mod Owners
 pub mod Actions
+pub mod CallRuns
 pub mod Counts
 pub mod Fits
 pub mod OwnerInside
-pub mod CallParts
 pub mod Hosts
 pub mod HostInside

@@ -1,16 +1,16 @@
-//! The actions of one call, by their numbers.
+//! The action of a call at each of its places, its reply, and the frame that it gives back.
 
-ghost use Rattle.std.specs.Prelude.{◌≡◌, ◌+◌, ◌-◌, ◌%◌, ◌^◌, ◌<◌, ◌≤◌, ◌==◌, ◌&&◌, ◌++◌, ◌∷◌, [], length, slice_get, slice_index, slice_index_or, IfSome};
-ghost use Rattle.evac_model.specs.declared.call.Call.{Call};
+ghost use Rattle.std.specs.Prelude.{◌≡◌, ◌+◌, ◌<◌, ◌≤◌, ◌^◌, [], length, slice_index, slice_index_or, Some};
 ghost use Rattle.core_state.specs.declared.step.Step.{Step};
-ghost use Rattle.core_actors.specs.declared.action.Action.{Action};
-ghost use Rattle.core_actors.specs.CallSteps.{first_cell, load_count, values_of, is_freed, mapped_reply, leased_reply, unmapped_reply, reply_of, load_steps, store_steps, cell_steps, middle_steps, zeroing, as_actions, lead_actions, mapping_actions, call_actions, leased_frame, frame_back};
-ghost use Rattle.core_actors.specs.Actions.{IsStorable};
-ghost use Rattle.core_actors.specs.CallParts.{actions_behind, held_actions, IsStorableAction};
+ghost use Rattle.core_actors.specs.CallSteps.{first_cell, load_count, values_of, is_freed, mapped_reply, leased_reply, unmapped_reply, reply_of, leased_frame, frame_back};
+ghost use Rattle.core_actors.specs.Actions.{IsStorableAction};
+ghost use Rattle.core_actors.specs.Counts.{ComesTo};
+ghost use Rattle.core_actors.specs.Places.{first_action, action_at};
 
 use crate::action::{Action, LeaseSeen, SpaceCall};
+use crate::place::CallPlace;
 use core_state::{CallDone, MoveStep, Step};
-use evac_model::{Call, Cells, FrameNo, Kind, PageNo, Reply};
+use evac_model::{Call, Cells, FrameNo, PageNo, Reply};
 use evac_words::{frame_of, is_mapped, pins_of};
 
 /// The value that was loaded first, or 0.
@@ -22,7 +22,7 @@ fn first_loaded(loads: &Cells) -> u64
 }
 
 /// Whether a free whose take found the word frees the page.
-fn is_freed(found: u64) -> bool
+pub(crate) fn is_freed(found: u64) -> bool
     ensures { result ≡ is_freed found }
 {
     is_mapped(found) && pins_of(found) == 0
@@ -98,264 +98,106 @@ fn reply_of(lease: &LeaseSeen, found: u64, loads: &Cells, call: &Call) -> Reply
     }
 }
 
-/// Step `i` of a read behind the draw: a load of each cell.
-fn read_step(first: u32, count: u32, i: u32) -> Option<Step>
-    requires { first + count ≤ 2 ^ 32 }
-    ensures { result ≡ slice_get (load_steps first count) i }
+/// The release of a call, with its reply.
+fn release(lease: &LeaseSeen, found: u64, loads: &Cells, call: &Call) -> Step
+    ensures { result ≡ Step.Release (Some (record { call = call.now; reply = reply_of lease.now found loads.now call.now })) }
 {
-    if i < count {
-        Some(Step::Load { cell: first + i })
-    } else {
-        None
-    }
-}
-
-/// Step `i` of a write behind the draw: a store of each value, and then the mark.
-fn write_step(frame: FrameNo, first: u32, values: &Cells, i: u32) -> Option<Step>
-    requires { first + length values.now ≤ 2 ^ 32 }
-    ensures step { result ≡ slice_get (store_steps frame first values.now ++ Step.Mark frame ∷ []) i }
-    ensures storable { IfSome result (λ step. IsStorable step) }
-{
-    let values = values.as_slice();
-    let at = i as usize;
-    if at < values.len() {
-        Some(Step::Store {
-            frame,
-            cell: first + i,
-            value: values[at],
-        })
-    } else if at == values.len() {
-        Some(Step::Mark { frame })
-    } else {
-        None
-    }
-}
-
-/// Step `i` of an add behind the draw: the load, the store of the sum modulo 2^64, and then the mark.
-fn add_step(frame: FrameNo, cell: u32, value: u64, loads: &Cells, i: u32) -> Option<Step>
-    ensures step { result ≡ slice_get (cell_steps frame loads.now (Call.Add cell value)) i }
-    ensures storable { IfSome result (λ step. IsStorable step) }
-{
-    match i {
-        0 => Some(Step::Load { cell }),
-        1 => Some(Step::Store {
-            frame,
-            cell,
-            value: first_loaded(loads).wrapping_add(value),
+    Step::Release {
+        done: Some(CallDone {
+            call: *call,
+            reply: reply_of(lease, found, loads, call),
         }),
-        2 => Some(Step::Mark { frame }),
-        _ => None,
     }
 }
 
-/// Step `i` between the draw and the steps on the mapping, where there is one.
-fn middle_step(call: &Call, found: u64, loads: &Cells, i: u32) -> Option<Step>
-    requires { first_cell call.now + load_count call.now + length (values_of [] call.now) ≤ 2 ^ 32 }
-    ensures step { result ≡ slice_get (middle_steps found loads.now call.now) i }
-    ensures storable { IfSome result (λ step. IsStorable step) }
+/// The value that a call stores behind so many others, where its loads gave these; 0 where there is none.
+fn value_at(call: &Call, loads: &Cells, i: u32) -> u64
+    ensures value { result ≡ slice_index_or (values_of loads.now call.now) i 0 }
+    ensures storable { result < 2 ^ 64 }
 {
-    if !is_mapped(found) {
-        return None;
-    }
-    let frame = FrameNo(frame_of(found));
     match call {
-        Call::Read { first, count } => read_step(*first, *count, i),
-        Call::Write { first, values } => write_step(frame, *first, values, i),
-        Call::Add { cell, value } => add_step(frame, *cell, *value, loads, i),
-        Call::Alloc { .. } | Call::Free | Call::Pin | Call::Unpin => None,
-    }
-}
-
-/// Step `i` on a frame that was leased: a store of 0 in each cell, and then the mark.
-fn zero_step(cells: u32, lease: &LeaseSeen, i: u32) -> Option<Step>
-    ensures step { result ≡ slice_get (zeroing cells lease.now) i }
-    ensures storable { IfSome result (λ step. IsStorable step) }
-{
-    match lease {
-        LeaseSeen::Got { frame } => {
-            if i < cells {
-                Some(Step::Store {
-                    frame: *frame,
-                    cell: i,
-                    value: 0,
-                })
-            } else if i == cells {
-                Some(Step::Mark { frame: *frame })
+        Call::Write { values, .. } => {
+            let values = values.as_slice();
+            let at = i as usize;
+            if at < values.len() { values[at] } else { 0 }
+        }
+        Call::Add { value, .. } => {
+            if i == 0 {
+                first_loaded(loads).wrapping_add(*value)
             } else {
-                None
+                0
             }
         }
-        LeaseSeen::NotAsked => None,
-        LeaseSeen::Refused { .. } => None,
+        Call::Alloc { .. } | Call::Free | Call::Read { .. } | Call::Pin | Call::Unpin => 0,
     }
 }
 
-/// Action `i` of an alloc before its take: the lease, and then the steps on the frame.
-fn alloc_action(cells: u32, page: PageNo, kind: Kind, lease: &LeaseSeen, i: u32) -> Option<Action>
-    ensures action { result ≡ slice_get (lead_actions cells page (Call.Alloc kind) lease.now) i }
-    ensures storable { IfSome result IsStorableAction }
-{
-    if i == 0 {
-        return Some(Action::Space(SpaceCall::Lease { page, kind }));
-    }
-    match zero_step(cells, lease, i - 1) {
-        Some(step) => Some(Action::Step(step)),
-        None => None,
-    }
-}
-
-/// Action `i` of a call before its take, where there is one.
-fn lead_action(cells: u32, page: PageNo, call: &Call, lease: &LeaseSeen, i: u32) -> Option<Action>
-    ensures action { result ≡ slice_get (lead_actions cells page call.now lease.now) i }
-    ensures storable { IfSome result IsStorableAction }
+/// The first cell that a call names, or 0.
+fn first_cell(call: &Call) -> u32
+    ensures { result ≡ first_cell call.now }
 {
     match call {
-        Call::Alloc { kind } => alloc_action(cells, page, *kind, lease, i),
-        Call::Free
-        | Call::Read { .. }
-        | Call::Write { .. }
-        | Call::Add { .. }
-        | Call::Pin
-        | Call::Unpin => None,
+        Call::Read { first, .. } => *first,
+        Call::Write { first, .. } => *first,
+        Call::Add { cell, .. } => *cell,
+        Call::Alloc { .. } | Call::Free | Call::Pin | Call::Unpin => 0,
     }
 }
 
-/// How many actions an alloc makes before its take.
-fn alloc_count(cells: u32, lease: &LeaseSeen) -> u32
-    requires { cells ≤ 512 }
-    ensures { result ≡ length (zeroing cells lease.now) + 1 }
-{
-    match lease {
-        LeaseSeen::Got { .. } => cells + 2,
-        LeaseSeen::NotAsked => 1,
-        LeaseSeen::Refused { .. } => 1,
-    }
-}
-
-/// How many actions a call makes before its take.
-fn lead_count(cells: u32, page: PageNo, call: &Call, lease: &LeaseSeen) -> u32
-    requires { cells ≤ 512 }
-    ensures { result ≡ length (lead_actions cells page call.now lease.now) }
-{
-    match call {
-        Call::Alloc { .. } => alloc_count(cells, lease),
-        Call::Free
-        | Call::Read { .. }
-        | Call::Write { .. }
-        | Call::Add { .. }
-        | Call::Pin
-        | Call::Unpin => 0,
-    }
-}
-
-/// The map of an alloc that found its page unmapped and leased a frame.
-fn map_action(kind: Kind, lease: &LeaseSeen, found: u64) -> Option<Action>
-    ensures { result ≡ slice_get (mapping_actions (Call.Alloc kind) lease.now found) 0 }
-{
-    if is_mapped(found) {
-        return None;
-    }
-    match lease {
-        LeaseSeen::Got { frame } => Some(Action::Move(MoveStep::Map {
-            frame: *frame,
-            kind,
-        })),
-        LeaseSeen::NotAsked => None,
-        LeaseSeen::Refused { .. } => None,
-    }
-}
-
-/// Step `i` on the mapping, where there is one.
-fn mapping_action(call: &Call, lease: &LeaseSeen, found: u64, i: u32) -> Option<Action>
-    ensures action { result ≡ slice_get (mapping_actions call.now lease.now found) i }
-    ensures storable { IfSome result IsStorableAction }
-{
-    if i > 0 {
-        return None;
-    }
-    match call {
-        Call::Alloc { kind } => map_action(*kind, lease, found),
-        Call::Free => {
-            if is_freed(found) {
-                Some(Action::Move(MoveStep::Unmap))
-            } else {
-                None
-            }
-        }
-        Call::Read { .. } | Call::Write { .. } | Call::Add { .. } | Call::Pin | Call::Unpin => None,
-    }
-}
-
-/// Action `i` between the draw and the release, where there is one.
-fn action_behind(
-    call: &Call,
-    lease: &LeaseSeen,
-    found: u64,
-    loads: &Cells,
-    i: u32,
-) -> Option<Action>
-    requires { first_cell call.now + load_count call.now + length (values_of [] call.now) ≤ 2 ^ 32 }
-    ensures action { result ≡ slice_get (actions_behind call.now lease.now found loads.now) i }
-    ensures storable { IfSome result IsStorableAction }
-{
-    match middle_step(call, found, loads, i) {
-        Some(step) => Some(Action::Step(step)),
-        None => mapping_action(call, lease, found, i),
-    }
-}
-
-/// Action `i` of a call from its take on.
-fn held_action(
-    page: PageNo,
-    call: &Call,
-    lease: &LeaseSeen,
-    found: u64,
-    loads: &Cells,
-    i: u32,
-) -> Action
-    requires cells { first_cell call.now + load_count call.now + length (values_of [] call.now) ≤ 2 ^ 32 }
-    requires made { i < length (held_actions page call.now lease.now found loads.now) }
-    ensures action { result ≡ slice_index_or (held_actions page call.now lease.now found loads.now) i (Action.Step Step.Draw) }
+/// The action with which a call begins.
+pub(crate) fn first_action(page: PageNo, call: &Call) -> Action
+    ensures action { result ≡ first_action (page, call.now) }
     ensures storable { IsStorableAction result }
 {
-    if i == 0 {
-        return Action::Step(Step::Take { page });
-    }
-    if i == 1 {
-        return Action::Step(Step::Draw);
-    }
-    match action_behind(call, lease, found, loads, i - 2) {
-        Some(action) => action,
-        None => Action::Step(Step::Release {
-            done: Some(CallDone {
-                call: *call,
-                reply: reply_of(lease, found, loads, call),
-            }),
-        }),
+    match call {
+        Call::Alloc { kind } => Action::Space(SpaceCall::Lease { page, kind: *kind }),
+        Call::Free
+        | Call::Read { .. }
+        | Call::Write { .. }
+        | Call::Add { .. }
+        | Call::Pin
+        | Call::Unpin => Action::Step(Step::Take { page }),
     }
 }
 
-/// Action `made` of the call, where its lease gave this, its take found the word and its loads gave
-/// these values. A page has `cells` cells.
-pub(crate) fn call_action(
-    cells: u32,
-    page: PageNo,
-    call: &Call,
-    lease: &LeaseSeen,
-    found: u64,
-    loads: &Cells,
-    made: u32,
-) -> Action
+/// The action of a call at a place that it comes to. A page has `cells` cells.
+pub(crate) fn action_at(cells: u32, page: PageNo, call: &Call, at: &CallPlace) -> Action
     requires sized { cells ≤ 512 }
     requires cells { first_cell call.now + load_count call.now + length (values_of [] call.now) ≤ 2 ^ 32 }
-    requires made { made < length (call_actions cells page call.now lease.now found loads.now) }
-    ensures action { result ≡ slice_index_or (call_actions cells page call.now lease.now found loads.now) made (Action.Step Step.Draw) }
+    requires comes { ComesTo cells call.now at.now }
+    ensures action { result ≡ action_at (page, call.now) at.now }
     ensures storable { IsStorableAction result }
 {
-    let lead = lead_count(cells, page, call, lease);
-    match lead_action(cells, page, call, lease, made) {
-        Some(action) => action,
-        None => held_action(page, call, lease, found, loads, made - lead),
+    match at {
+        CallPlace::Zero { frame, cell } => Action::Step(Step::Store {
+            frame: *frame,
+            cell: *cell,
+            value: 0,
+        }),
+        CallPlace::MarkZeros { frame } => Action::Step(Step::Mark { frame: *frame }),
+        CallPlace::Take { .. } => Action::Step(Step::Take { page }),
+        CallPlace::Draw { .. } => Action::Step(Step::Draw),
+        CallPlace::Load { loads, .. } => Action::Step(Step::Load {
+            cell: first_cell(call) + loads.len() as u32,
+        }),
+        CallPlace::Store { found, loads, i } => Action::Step(Step::Store {
+            frame: FrameNo(frame_of(*found)),
+            cell: first_cell(call) + *i,
+            value: value_at(call, loads, *i),
+        }),
+        CallPlace::Mark { found, .. } => Action::Step(Step::Mark {
+            frame: FrameNo(frame_of(*found)),
+        }),
+        CallPlace::Map { frame, kind, .. } => Action::Move(MoveStep::Map {
+            frame: *frame,
+            kind: *kind,
+        }),
+        CallPlace::Unmap { .. } => Action::Move(MoveStep::Unmap),
+        CallPlace::Release {
+            lease,
+            found,
+            loads,
+        } => Action::Step(release(lease, *found, loads, call)),
     }
 }
 

@@ -1,7 +1,7 @@
 //! What is read in what was heard.
 
 ghost use Rattle.std.specs.Prelude.{◌≡◌};
-ghost use Rattle.core_actors.specs.Owners.{word_in, lease_in};
+ghost use Rattle.core_actors.specs.Places.{word_in, lease_in};
 ghost use Rattle.core_actors.specs.Hosts.{result_in};
 
 use crate::action::{DeviceHeard, Heard, LeaseSeen};
@@ -18,14 +18,16 @@ pub(crate) fn word_in(heard: &Heard) -> u64
     }
 }
 
-/// What a lease gave.
+/// What a lease gave; what isn't of a lease is read as one that was refused.
 pub(crate) fn lease_in(heard: &Heard) -> LeaseSeen
     ensures { result ≡ lease_in heard.now }
 {
     match heard {
         Heard::Leased(frame) => LeaseSeen::Got { frame: *frame },
         Heard::NoFrame(at) => LeaseSeen::Refused { at: *at },
-        Heard::Start | Heard::Word(_) | Heard::Nothing | Heard::Device(_) => LeaseSeen::NotAsked,
+        Heard::Start | Heard::Word(_) | Heard::Nothing | Heard::Device(_) => LeaseSeen::Refused {
+            at: 0,
+        },
     }
 }
 

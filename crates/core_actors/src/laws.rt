@@ -1,6 +1,6 @@
 //! Laws of the actions of owners and hosts. Each function has an empty body: its contract is the law.
 
-ghost use Rattle.std.specs.Prelude.{◌≡◌, ℕ, ◌+◌, ◌*◌, ◌<◌, ◌≤◌, ◌↔◌, List, [], map, length, true, false, None, Some, IsSome};
+ghost use Rattle.std.specs.Prelude.{◌≡◌, ℕ, ◌+◌, ◌*◌, ◌<◌, ◌≤◌, ◌↔◌, List, [], ◌∷◌, ◌++◌, map, length, true, false, None, Some, IsSome};
 ghost use Rattle.std.specs.List.{AllByRecursion, enumerate_from};
 ghost use Rattle.evac_model.specs.declared.call.Call.{Call};
 ghost use Rattle.evac_model.specs.declared.names.FrameNo.{FrameNo};
@@ -25,13 +25,22 @@ ghost use Rattle.core_state.specs.HandOvers.{IsAtRest, MayHandOver, hand_without
 ghost use Rattle.core_actors.specs.declared.action.Action.{Action};
 ghost use Rattle.core_actors.specs.declared.action.Heard.{Heard};
 ghost use Rattle.core_actors.specs.declared.action.SpaceCall.{SpaceCall};
-ghost use Rattle.core_actors.specs.CallSteps.{IsCallOf};
+ghost use Rattle.core_actors.specs.declared.action.LeaseSeen.{LeaseSeen};
+ghost use Rattle.core_actors.specs.CallRuns.{made_hearing, after_hearing, before_release};
+ghost use Rattle.core_actors.specs.CallSteps.{IsCallOf, call_actions};
 ghost use Rattle.core_actors.specs.Owners.{OwnerState, owner_at_start, owner_ended, next_action, owner_after};
 ghost use Rattle.core_actors.specs.Actions.{owner_heard, heard_by, ends_with_next, IsStorable};
 ghost use Rattle.core_actors.specs.Counts.{actions_left, IsUnderWay, FindsTaken};
 ghost use Rattle.core_actors.specs.Fits.{Fits};
 ghost use Rattle.evac_model.specs.declared.host.HostCommand.{HostCommand};
 ghost use Rattle.core_actors.specs.Hosts.{HostState, host_at_start, host_ended, host_after, host_actions_left, IsHostUnderWay};
+
+/// From the start of a call an owner makes exactly the actions of the call's list, one after another, whatever it
+/// hears; a take that finds its page taken is made again. Where the release comes next, what its lease gave, the
+/// word that its take found and the values that its loads gave are those of the list.
+pub fn owners_make_the_actions_of_their_calls()
+    ensures { (owner : ℕ) (s : Sizes) (c : PageNo × Call) (cs : List (PageNo × Call)) (heards : List Heard) (lease : LeaseSeen) (found : ℕ) (loads : List ℕ) → IsCallOf s c → after_hearing (owner_at_start owner s.cells (c ∷ cs)) heards ≡ before_release owner s.cells (c ∷ cs) lease found loads → made_hearing (owner_at_start owner s.cells (c ∷ cs)) heards ++ next_action (before_release owner s.cells (c ∷ cs) lease found loads) ∷ [] ≡ call_actions s.cells c.0 c.1 lease found loads }
+{}
 
 /// The next action of an owner that hasn't ended is allowed, where its seat's view fits its place in the
 /// script, and each page is what its calls answer. Where it asks the frame space, its seat is at rest; a
@@ -58,24 +67,21 @@ pub fn owners_fit_at_the_opening()
     ensures { (s : Sizes) (o : Opening) (v : View) (script : List (PageNo × Call)) (owner : ℕ) → o.cells ≡ s.cells → o.pages ≡ s.pages → AllByRecursion (λ c. IsCallOf s c) script → IsSeated o v → IsNew o v → v.caller ≡ Some owner → v.left ≡ length script → ((frame : ℕ) → hand_frame v frame ≡ None) → Fits s o script v (owner_at_start owner s.cells script) }
 {}
 
-/// An owner is under way at the start, and after each of its actions. A lease is heard of as one.
+/// An owner is under way at the start, and after each of its actions, whatever that gives.
 pub fn owners_stay_under_way()
     ensures start { (owner cells : ℕ) (script : List (PageNo × Call)) → IsUnderWay (owner_at_start owner cells script) }
-    ensures step { (s : Sizes) (a : OwnerState) (step : Step) (found : ℕ) → AllByRecursion (λ c. IsCallOf s c) a.left → IsUnderWay a → next_action a ≡ Action.Step step → IsUnderWay (owner_after a (heard_by step found)) }
-    ensures mapping { (a : OwnerState) (step : MoveStep) → IsUnderWay a → next_action a ≡ Action.Move step → IsUnderWay (owner_after a Heard.Nothing) }
-    ensures leased { (a : OwnerState) (page : PageNo) (kind : Kind) (frame : FrameNo) → IsUnderWay a → next_action a ≡ Action.Space (SpaceCall.Lease page kind) → IsUnderWay (owner_after a (Heard.Leased frame)) }
-    ensures refused { (a : OwnerState) (page : PageNo) (kind : Kind) (at : ℕ) → IsUnderWay a → next_action a ≡ Action.Space (SpaceCall.Lease page kind) → IsUnderWay (owner_after a (Heard.NoFrame at)) }
-    ensures returned { (a : OwnerState) (frame : FrameNo) → IsUnderWay a → next_action a ≡ Action.Space (SpaceCall.Return frame) → IsUnderWay (owner_after a Heard.Nothing) }
+    ensures action { (a : OwnerState) (heard : Heard) → IsUnderWay a → IsUnderWay (owner_after a heard) }
 {}
 
 /// An owner has at most so many actions left as its calls, times the cells of a page and 6. Each action
 /// leaves fewer, but a take that finds its page taken, which changes nothing. None are left exactly where
-/// the owner has ended.
+/// the owner has ended, and just there it makes none.
 pub fn owners_end_after_their_actions()
     ensures most { (s : Sizes) (owner : ℕ) (script : List (PageNo × Call)) → AllByRecursion (λ c. IsCallOf s c) script → actions_left (owner_at_start owner s.cells script) ≤ length script * (s.cells + 6) }
-    ensures fewer { (s : Sizes) (a : OwnerState) (heard : Heard) → a.cells ≡ s.cells → AllByRecursion (λ c. IsCallOf s c) a.left → IsUnderWay a → owner_ended a ≡ false → IsUnderWay (owner_after a heard) → ((found : ℕ) → heard ≡ Heard.Word found → ¬ FindsTaken (next_action a) found) → actions_left (owner_after a heard) < actions_left a }
+    ensures fewer { (s : Sizes) (a : OwnerState) (heard : Heard) → a.cells ≡ s.cells → AllByRecursion (λ c. IsCallOf s c) a.left → IsUnderWay a → owner_ended a ≡ false → ((found : ℕ) → heard ≡ Heard.Word found → ¬ FindsTaken (next_action a) found) → actions_left (owner_after a heard) < actions_left a }
     ensures again { (a : OwnerState) (found : ℕ) → FindsTaken (next_action a) found → owner_after a (Heard.Word found) ≡ a }
     ensures ended { (s : Sizes) (a : OwnerState) → a.cells ≡ s.cells → AllByRecursion (λ c. IsCallOf s c) a.left → IsUnderWay a → (actions_left a ≡ 0) ↔ (owner_ended a ≡ true) }
+    ensures told { (a : OwnerState) → (next_action a ≡ Action.Ended) ↔ (owner_ended a ≡ true) }
 {}
 
 /// The view of an owner that has ended has an entry for each call of its script, in order and numbered

@@ -4,10 +4,12 @@
 
 mod action;
 mod call_action;
+mod call_place;
 mod heard;
 mod host;
 mod laws;
 mod owner;
+mod place;
 
 pub use action::{Action, DeviceCall, DeviceHeard, Heard, LeaseSeen, Others, SpaceCall};
 pub use host::{Host, plugged_by};
@@ -15,9 +17,7 @@ pub use laws::{
     ended_owners_have_their_entries, ends_are_known_before_the_last_action,
     hosts_end_after_their_actions, hosts_stay_under_way, owners_end_after_their_actions,
     owners_fit_after_their_actions, owners_fit_at_the_opening, owners_make_allowed_actions,
-    owners_stay_under_way,
+    owners_make_the_actions_of_their_calls, owners_stay_under_way,
 };
 pub use owner::Owner;
-
-#[cfg(test)]
-mod tests;
+pub use place::{CallPlace, Place};

@@ -1,6 +1,5 @@
-use Rattle.std.proofs.Common.{None, arith}
+use Rattle.std.proofs.Common.{arith}
 use Rattle.evac_model.proofs.Bounds.{power_to_512_most}
-use Rattle.core_actors.proofs.Placed.{placed_before}
 use Rattle.core_actors.proofs.owner.Owner.new.Goals as goal
 
 pub invariant_of-result : goal.invariant_of-result
@@ -10,5 +9,5 @@ invariant_of-result c =
       cells = power_to_512_most c.args.g.cells within.cells;
       calls = c.requires;
       place = omega arith;
-      placed = rw c.new.ensures (placed_before c.args.owner c.args.g.cells c.args.calls None);
+      under_way = tt;
     }
