@@ -1,7 +1,7 @@
 -- Why a replay ends without a report, and the line that it writes then.
 use Rattle.std.specs.Prelude.{◌≡◌, ℕ, ◌<◌, ◌⊎◌, ⊤, List, ◌++◌, codes, length, take, Option, IfSome}
 use Rattle.std.specs.Fmt.{decimal}
-use Rattle.evac_io.specs.Fault.{Rose}
+use Rattle.evac_model.specs.Counts.{Rose}
 use Rattle.evac_io.specs.Told.{Takes, IsLongerThan}
 use Rattle.evac_model.specs.declared.scenario.LineCause.{LineCause}
 use Rattle.evac_model.specs.declared.scenario.LineCause.TheVariants as cause

@@ -1,7 +1,7 @@
 //! The top call.
 
 ghost use Rattle.std.specs.Prelude.{◌≡◌, ◌≢◌, ◌≤◌, ◌↔◌, ◌⊎◌, ℕ, List, [], ◌∷◌, Some, None, IsSome, IfSome, IfOk, IfErr, IsErr, OnOk, IsTrue, Contains};
-ghost use Rattle.evac_io.specs.Fault.{Rose};
+ghost use Rattle.evac_model.specs.Counts.{Rose};
 ghost use Rattle.evac_io.specs.Told.{Takes, IsAtEnd};
 ghost use Rattle.evac_model.specs.declared.scenario.Scenario.{Scenario};
 ghost use Rattle.evac_model.specs.Scenarios.{IsRunnable};
@@ -41,7 +41,7 @@ fn report_and_text<S: Source>(alloc: Global, source: &mut S) -> Result<(Report, 
     ensures counts { S.faults source.old ≤ S.faults source.new }
 {
     let s = read_input(alloc, source)?;
-    let report = Replay::open(alloc, &s)?.run(alloc)?;
+    let report = Replay::from_scenario(alloc, s)?.run(alloc)?;
     let text = write_report(alloc, &report)?;
     Ok((report, text))
 }
@@ -65,7 +65,7 @@ fn finish_with_report<K: Sink>(sink: &mut K, report: Report, text: &[u8]) -> Fin
 }
 
 /// Writes a line, and gives a finish without a report.
-fn finish_with_line<K: Sink>(sink: &mut K, status: u8, line: &[u8]) -> Finish
+pub(crate) fn finish_with_line<K: Sink>(sink: &mut K, status: u8, line: &[u8]) -> Finish
     ensures status { result.status ≡ status }
     ensures report { result.report ≡ None }
     ensures line { TakesLine (K.taken sink.old) (K.taken sink.new) (K.faults sink.old) (K.faults sink.new) line.now }

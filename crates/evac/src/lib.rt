@@ -5,11 +5,10 @@
 mod commands;
 mod finish;
 mod input;
+mod program;
 mod stop;
 
 pub use commands::replay_main;
 pub use finish::Finish;
+pub use program::program_main;
 pub use report::{FinalPage, FinalPageList, Report};
-
-#[cfg(test)]
-mod tests;

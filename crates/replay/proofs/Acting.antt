@@ -13,9 +13,7 @@ use Rattle.core_actors.specs.declared.action.Action.{Action}
 use Rattle.core_actors.specs.declared.action.Action.TheVariants as actions
 use Rattle.core_actors.specs.declared.action.SpaceCall.TheVariants.{Lease, Return, Online}
 use Rattle.core_actors.specs.Owners.{OwnerState, next_action}
-use Rattle.core_actors.proofs.AllowedMoves.{next_move_allowed}
-use Rattle.core_actors.proofs.AllowedSteps.{next_step_allowed}
-use Rattle.core_actors.proofs.AtRest.{lease_allowed}
+use Rattle.core_actors.proofs.Allowed.{next_step_allowed, next_move_allowed, lease_allowed}
 use Rattle.replay.specs.Keeping.{IsKept}
 use Rattle.replay.specs.Machine.{Machine, free_seat}
 use Rattle.replay.specs.Quiet.{IsQuiet}
@@ -42,7 +40,7 @@ may_act s m i a r kept quiet at going = by_action (next_action a) refl where
   )
   by_action (actions.Move step) is = next_move_allowed s.geometry (opening s) (owner_view m i) (script_of s.owners (suc i)) a step (owner_fits s m kept i a at).1 going is
   by_action (actions.Space (Lease page kind)) is =
-      let may = lease_allowed s.geometry (opening s) (owner_view m i) (script_of s.owners (suc i)) a page kind (owner_fits s m kept i a at).1 going is in
+      let may = lease_allowed s.geometry (opening s) (owner_view m i) (script_of s.owners (suc i)) a (owner_fits s m kept i a at).1 page kind is in
       (may.1, λ l some. lease_handed s m kept i a at r kind l some may.0)
   by_action (actions.Space (Return frame)) is = (return_out s m kept i a at going frame is, return_handed s m kept i a at going frame is)
   by_action (actions.Space (Online block)) is = tt

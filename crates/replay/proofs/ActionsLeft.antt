@@ -1,6 +1,6 @@
 -- The actions that all owners and the host may still make: no turn raises them, and an action lowers them, but for
 -- a take that finds its page taken.
-use Rattle.std.proofs.Common.{◌≡◌, ◌⊎◌, ◌↔◌, ℕ, suc, ◌+◌, ◌<◌, ◌≤◌, ◌==◌, cond, Bool, true, false, List, [], ◌∷◌, length, if◌then◌else◌, refl, ap, ◌∙◌, arith, suc-mul, inl, inr, ⊎_elim, Option, None, Some}
+use Rattle.std.proofs.Common.{◌≡◌, ◌⊎◌, ◌↔◌, ℕ, suc, ◌+◌, ◌<◌, ◌≤◌, ◌==◌, cond, Bool, true, false, List, [], ◌∷◌, length, if◌then◌else◌, refl, ap, ◌∙◌, arith, suc-mul, inl, inr, ⊎_elim, Option, None, Some, subst, sym}
 use Rattle.std.specs.List.{sum_by, slice_get}
 use Rattle.std.proofs.lemmas.Option.{slice_get-get_or}
 use native.Mathlib.Decide.{ℕ_discrete}
@@ -23,11 +23,12 @@ use Rattle.core_actors.specs.declared.action.Action.TheVariants as actions
 use Rattle.core_actors.specs.declared.action.Heard.{Heard}
 use Rattle.core_actors.specs.declared.action.Heard.TheVariants.{Word}
 use Rattle.core_actors.specs.Hosts.{HostState, host_ended, host_actions_left, IsHostUnderWay}
-use Rattle.core_actors.specs.Owners.{OwnerState, one_made, owner_ended, next_action, word_in, after_action, owner_after}
+use Rattle.core_actors.specs.Places.{word_in}
+use Rattle.core_actors.specs.Owners.{OwnerState, owner_ended, next_action, owner_after}
 use Rattle.core_actors.specs.Counts.{actions_left, FindsTakenBy, FindsTaken}
 use Rattle.core_actors.specs.Fits.{Fits}
 use Rattle.core_actors.proofs.HostCounts.{host_fewer}
-use Rattle.core_actors.proofs.Left.{actions_fewer}
+use Rattle.core_actors.proofs.Left.{actions_fewer, again}
 use Rattle.replay.specs.Machine.{Setting, Machine, after_turn, after_turns}
 use Rattle.replay.specs.Runs.{opening, setting}
 use Rattle.replay.specs.Keeping.{IsKept}
@@ -90,21 +91,17 @@ module _ (c : Setting) (m : Machine) (seat : ℕ) where
   finds_what_it_hears actions.Ended word e taken = taken
 
   -- a take that finds its page taken is made again
-  take_again : (a : OwnerState) (x : Action) → owner_ended a ≡ false → next_action a ≡ x → FindsTaken x (found_by c m seat x) → owner_after a (heard_of c m seat x) ≡ a
-  take_again a (actions.Step (Take page)) going is taken =
-      let word : ℕ = found_by c m seat (actions.Step (Take page)) in
-      ap (λ (b : Bool). cond b a (after_action a (Word word) (next_action a))) going
-      ∙ (ap (λ (y : Action). after_action a (Word word) y) is
-      ∙ ap (λ (k : ℕ). if k == 0 then one_made (record a { found = word }) else a) taken)
-  take_again a (actions.Step Draw) going is taken = absurd taken
-  take_again a (actions.Step (Load cell)) going is taken = absurd taken
-  take_again a (actions.Step (Store frame cell value)) going is taken = absurd taken
-  take_again a (actions.Step (Mark frame)) going is taken = absurd taken
-  take_again a (actions.Step (Release end)) going is taken = absurd taken
-  take_again a (actions.Move step) going is taken = absurd taken
-  take_again a (actions.Space call) going is taken = absurd taken
-  take_again a (actions.Device call) going is taken = absurd taken
-  take_again a actions.Ended going is taken = absurd taken
+  take_again : (a : OwnerState) (x : Action) → next_action a ≡ x → FindsTaken x (found_by c m seat x) → owner_after a (heard_of c m seat x) ≡ a
+  take_again a (actions.Step (Take page)) is taken = again a (found_by c m seat (actions.Step (Take page))) (subst (λ (y : Action). FindsTaken y (found_by c m seat (actions.Step (Take page)))) (sym is) taken)
+  take_again a (actions.Step Draw) is taken = absurd taken
+  take_again a (actions.Step (Load cell)) is taken = absurd taken
+  take_again a (actions.Step (Store frame cell value)) is taken = absurd taken
+  take_again a (actions.Step (Mark frame)) is taken = absurd taken
+  take_again a (actions.Step (Release end)) is taken = absurd taken
+  take_again a (actions.Move step) is taken = absurd taken
+  take_again a (actions.Space call) is taken = absurd taken
+  take_again a (actions.Device call) is taken = absurd taken
+  take_again a actions.Ended is taken = absurd taken
 
 -- ---- an action, and a turn
 
@@ -134,7 +131,7 @@ module _ (s : Scenario) (m : Machine) (kept : IsKept s m) where
 
     action_keeps : FindsTaken (next_action a) (found_at (setting s) m i a) → all_actions_left (after_turn (setting s) m (Owner (suc i))) ≤ all_actions_left m
     action_keeps taken =
-        let same = ap actions_left (take_again (setting s) m (suc i) a (next_action a) going refl taken) in
+        let same = ap actions_left (take_again (setting s) m (suc i) a (next_action a) refl taken) in
         omega (arith, left_after, same)
 
     action_never_raises : all_actions_left (after_turn (setting s) m (Owner (suc i))) ≤ all_actions_left m

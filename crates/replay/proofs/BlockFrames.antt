@@ -7,7 +7,7 @@ use Rattle.evac_model.specs.Numbers.{is_in, is_between}
 use Rattle.evac_model.specs.SpaceJournal.{is_frame_of, is_frame_in}
 use Rattle.evac_model.proofs.Ranges.{between_inside, between_below, between_above}
 use Rattle.space.proofs.BlockFrames.{same_block, frame_in_witness, frame_in_from, both_true}
-use Rattle.space.proofs.Members.{is_in-range_with_len}
+use Rattle.evac_model.proofs.Members.{is_in-range_with_len}
 
 -- ---- a range of blocks
 

@@ -1,5 +1,5 @@
 -- The release of a call: what its entry made, and which lease was refused.
-use Rattle.std.proofs.Common.{◌≡◌, ℕ, ◌+◌, ◌<◌, ◌≤◌, ◌==◌, ◌&&◌, Bool, true, false, if◌then◌else◌, List, [], ◌∷◌, ◌++◌, length, get_or, refl, sym, ap, ◌∙◌, subst, inl, inr, arith, Option, Some, None}
+use Rattle.std.proofs.Common.{◌≡◌, ◌≢◌, ℕ, ◌+◌, ◌<◌, ◌≤◌, ◌==◌, ◌&&◌, Bool, true, false, if◌then◌else◌, List, [], ◌∷◌, ◌++◌, length, get_or, refl, sym, ap, ◌∙◌, subst, inl, inr, arith, Option, Some, None}
 use Rattle.std.specs.List.{AllByRecursion}
 use Rattle.evac_model.specs.declared.names.FrameNo.{FrameNo}
 use Rattle.evac_model.specs.declared.names.Kind.{Kind}
@@ -17,23 +17,18 @@ use Rattle.evac_words.specs.Word.{mapped_bit, pins_of, frame_of}
 use Rattle.core_state.specs.declared.held.Held.{Held}
 use Rattle.core_state.specs.declared.opening.Opening.{Opening}
 use Rattle.core_state.specs.declared.step.CallDone.{CallDone}
-use Rattle.core_state.specs.declared.step.Step.TheVariants.{Draw, Release}
 use Rattle.core_state.specs.declared.view.View.{View}
 use Rattle.core_state.specs.Pages.{number_or}
-use Rattle.core_state.specs.Steps.{held_page, held_ticket, entry_of, after_release}
+use Rattle.core_state.specs.Steps.{held_page, held_ticket, entry_of}
 use Rattle.core_state.proofs.Holding.{for_some, some_is}
-use Rattle.core_actors.specs.declared.action.Action.{Action}
-use Rattle.core_actors.specs.declared.action.Action.TheVariants as actions
 use Rattle.core_actors.specs.declared.action.LeaseSeen.{LeaseSeen}
 use Rattle.core_actors.specs.declared.action.LeaseSeen.TheVariants.{NotAsked, Got, Refused}
-use Rattle.core_actors.specs.CallSteps.{leased_reply, leased_frame, reply_of, call_actions, frame_back}
-use Rattle.core_actors.specs.Counts.{HeardOfLease}
-use Rattle.core_actors.specs.Owners.{OwnerState, call_ended}
-use Rattle.core_actors.specs.Fits.{since_take, IsHeldFor, Fits}
-use Rattle.core_actors.proofs.CallKinds.{LeadIs, BehindIs, ActionKind, leads, takes, draws, behind, releases, kind_of}
-use Rattle.core_actors.proofs.SeatPlaces.{holds_some}
-use Rattle.core_actors.proofs.CallStates.{call_state}
-use Rattle.core_actors.proofs.Stands.{StandsHere, length-call, stands}
+use Rattle.core_actors.specs.declared.place.Place.TheVariants.{Between, InCall}
+use Rattle.core_actors.specs.declared.place.CallPlace.TheVariants.{Release}
+use Rattle.core_actors.specs.CallSteps.{leased_reply, leased_frame, reply_of, frame_back}
+use Rattle.core_actors.specs.Counts.{IsLeaseOf}
+use Rattle.core_actors.specs.Owners.{OwnerState}
+use Rattle.core_actors.specs.Fits.{page_done, IsHeldAs, Fits}
 use Rattle.replay.specs.CallsMade.{made_under_way, leased_for, owed, IsRefusedSince, IsRefusedNow, AreOwnersCallsMade}
 use Rattle.replay.specs.Keeping.{IsInOrder}
 use Rattle.replay.proofs.CallsKept.{IsEndedBy, calls_ended}
@@ -42,14 +37,14 @@ use Rattle.replay.proofs.CallsKept.{IsEndedBy, calls_ended}
 
 module _ (who : ℕ) (page : PageNo) where
   -- an alloc, whose page was mapped or not
-  made_by_alloc : (kind : Kind) (lease : LeaseSeen) (made : ℕ) (mapped : Bool) → HeardOfLease (Alloc kind) made lease → 0 < made
+  made_by_alloc : (kind : Kind) (lease : LeaseSeen) (mapped : Bool) → lease ≢ NotAsked
       → IsMadeByAlloc who page kind (if mapped then Mapped else leased_reply lease) (leased_for who page kind lease ++ owed who (if mapped then leased_frame lease else None))
-  made_by_alloc kind NotAsked made true heard some = inl refl
-  made_by_alloc kind (Got frame) made true heard some = inr (frame, refl)
-  made_by_alloc kind (Refused at) made true heard some = inl refl
-  made_by_alloc kind NotAsked made false heard some = absurd (let z = heard.0 refl in omega arith)
-  made_by_alloc kind (Got frame) made false heard some = (frame, refl)
-  made_by_alloc kind (Refused at) made false heard some = refl
+  made_by_alloc kind NotAsked true some = inl refl
+  made_by_alloc kind (Got frame) true some = inr (frame, refl)
+  made_by_alloc kind (Refused at) true some = inl refl
+  made_by_alloc kind NotAsked false some = absurd (some refl)
+  made_by_alloc kind (Got frame) false some = (frame, refl)
+  made_by_alloc kind (Refused at) false some = refl
 
   -- a free, whose page was mapped or not, and had no pins or some
   made_by_free : (frame : FrameNo) (mapped unpinned : Bool)
@@ -58,15 +53,15 @@ module _ (who : ℕ) (page : PageNo) where
   made_by_free frame true false = refl
   made_by_free frame false unpinned = refl
 
-  pub made_by_call : (call : Call) (cs : List (PageNo × Call)) (lease : LeaseSeen) (found : ℕ) (loads : List ℕ) (made : ℕ) → HeardOfLease call made lease → 0 < made
+  pub made_by_call : (call : Call) (cs : List (PageNo × Call)) (lease : LeaseSeen) (found : ℕ) (loads : List ℕ) → IsLeaseOf call lease
       → IsMadeByCall who page call (reply_of lease found loads call) (made_under_way who ((page, call) ∷ cs) lease ++ owed who (frame_back call lease found))
-  made_by_call (Alloc kind) cs lease found loads made heard some = made_by_alloc kind lease made (mapped_bit found == 1) heard some
-  made_by_call Free cs lease found loads made heard some = made_by_free (record { 0 = frame_of found }) (mapped_bit found == 1) (pins_of found == 0)
-  made_by_call (Read first count) cs lease found loads made heard some = refl
-  made_by_call (Write first values) cs lease found loads made heard some = refl
-  made_by_call (Add cell value) cs lease found loads made heard some = refl
-  made_by_call Pin cs lease found loads made heard some = refl
-  made_by_call Unpin cs lease found loads made heard some = refl
+  made_by_call (Alloc kind) cs lease found loads is = made_by_alloc kind lease (mapped_bit found == 1) is
+  made_by_call Free cs lease found loads is = made_by_free (record { 0 = frame_of found }) (mapped_bit found == 1) (pins_of found == 0)
+  made_by_call (Read first count) cs lease found loads is = refl
+  made_by_call (Write first values) cs lease found loads is = refl
+  made_by_call (Add cell value) cs lease found loads is = refl
+  made_by_call Pin cs lease found loads is = refl
+  made_by_call Unpin cs lease found loads is = refl
 
 -- ---- a call that waits
 
@@ -105,77 +100,47 @@ module _ (s : Scenario) (journal : List SpaceAction) (who : ℕ) (es : List Entr
 
 -- ---- the release
 
-abbrev released_in : Action → Option CallDone
-released_in (actions.Step (Release end)) = end
-released_in other = None
+module _ (sc : Scenario) (journal : List SpaceAction) (who : ℕ) (s : Sizes) (o : Opening) (script : List (PageNo × Call)) (v : View) (owner cells : ℕ) (c : PageNo × Call) (cs : List (PageNo × Call)) (lease : LeaseSeen) (found : ℕ) (loads : List ℕ) where
+  abbrev now : OwnerState
+  now = record { owner = owner; cells = cells; left = c ∷ cs; place = InCall (Release lease found loads) }
 
-module _ (cells : ℕ) (c : PageNo × Call) (lease : LeaseSeen) (found : ℕ) (loads : List ℕ) (made : ℕ) where
-  abbrev next : Action
-  next = get_or (call_actions cells c.0 c.1 lease found loads) made (actions.Step Draw)
+  abbrev call_ended : OwnerState
+  call_ended = record { owner = owner; cells = cells; left = cs; place = Between (frame_back c.1 lease found) }
 
   abbrev done : CallDone
   done = record { call = c.1; reply = reply_of lease found loads c.1 }
 
-  release_kind : (end : Option CallDone) → next ≡ actions.Step (Release end) → ActionKind cells c lease found loads made → end ≡ Some done
-  release_kind end is (leads lt e) = absurd (subst (LeadIs made) is e)
-  release_kind end is (takes at e) = absurd (cc)
-  release_kind end is (draws at e) = absurd (cc)
-  release_kind end is (behind i at lt e) = absurd (subst (BehindIs _ i) is e)
-  release_kind end is (releases e) = ap (λ (x : Action). released_in x) (sym is ∙ e)
-
-  release_last : (end : Option CallDone) → made < length (call_actions cells c.0 c.1 lease found loads) → next ≡ actions.Step (Release end) → made + 1 ≡ length (call_actions cells c.0 c.1 lease found loads)
-  release_last end lt is = subst (λ (x : Action). StandsHere cells c.0 c.1 lease found loads made x) is (stands cells c.0 c.1 lease found loads made lt)
-
-module _ (sc : Scenario) (journal : List SpaceAction) (who : ℕ) (s : Sizes) (o : Opening) (script : List (PageNo × Call)) (v : View) (owner cells : ℕ) (c : PageNo × Call) (cs : List (PageNo × Call)) (lease : LeaseSeen) (found : ℕ) (loads : List ℕ) (made : ℕ) where
-  abbrev now : OwnerState
-  now = call_state owner cells c cs lease found loads made
-
-  abbrev done_here : CallDone
-  done_here = done cells c lease found loads made
-
   abbrev entry : Entry
-  entry = entry_of v done_here
+  entry = entry_of v done
 
-  module _ (h : Fits s o script v now) (order : IsInOrder v) (mine : owner ≡ who) (at : made + 1 ≡ length (call_actions cells c.0 c.1 lease found loads)) where
-    behind_draw : 2 ≤ since_take now c
-    behind_draw = let long = length-call cells c.0 c.1 lease found loads in omega arith
-
-    held : (x : Held) × (v.held ≡ Some x) × IsHeldFor o.cells c now x
-    held = for_some v.held (IsHeldFor o.cells c now) (holds_some (since_take now c) (IsHeldFor o.cells c now) v.held (let two = behind_draw in omega arith) h.held)
+  module _ (h : Fits s o script v now) (order : IsInOrder v) (mine : owner ≡ who) where
+    held : (x : Held) × (v.held ≡ Some x) × IsHeldAs o.cells c (page_done c.1 lease found loads) x
+    held = for_some v.held (IsHeldAs o.cells c (page_done c.1 lease found loads)) h.has.held
 
     page_is : entry.page ≡ c.0
     page_is = ap (λ (m : Option Held). record { 0 = held_page m }) held.1 ∙ held.2.page
 
     caller_is : entry.caller ≡ who
-    caller_is = ap (λ (m : Option ℕ). number_or m 0) h.caller ∙ mine
+    caller_is = ap (λ (m : Option ℕ). number_or m 0) h.belongs.caller ∙ mine
 
     -- its ticket is above those of the entries before
     below : AllByRecursion (λ x. x.ticket < entry.ticket) v.entries
     below =
-        let t = some_is (held.0).ticket (held.2.drawn behind_draw) in
+        let t = some_is (held.0).ticket held.2.drawn in
         let same : held_ticket v.held ≡ t.0 = ap (λ (m : Option Held). held_ticket m) held.1 ∙ ap (λ (n : Option ℕ). number_or n 0) t.1 in
         all_weaker (λ (x : Entry). x.ticket < t.0) (λ x. x.ticket < held_ticket v.held) (λ x lt. omega arith) v.entries (order.drawn held.0 t.0 held.1 t.1).1
 
-    ended : IsEndedBy who now (call_ended now) entry
+    ended : IsEndedBy who now call_ended entry
     ended =
         let actions : List SpaceAction = made_under_way who (c ∷ cs) lease ++ owed who (frame_back c.1 lease found) in
         record {
           none_owed = refl;
           waits = waits who cs;
           made = subst (λ (n : ℕ). IsMadeByCall n entry.page c.1 (reply_of lease found loads c.1) actions) (sym caller_is)
-              (subst (λ (p : PageNo). IsMadeByCall who p c.1 (reply_of lease found loads c.1) actions) (sym page_is)
-              (made_by_call who c.0 c.1 cs lease found loads made h.under_way.call.2 (let long = length-call cells c.0 c.1 lease found loads in omega arith)));
+              (subst (λ (p : PageNo). IsMadeByCall who p c.1 (reply_of lease found loads c.1) actions) (sym page_is) (made_by_call who c.0 c.1 cs lease found loads h.under_way.0));
         }
 
-    pub calls_released : AreOwnersCallsMade sc journal who now v.entries → AreOwnersCallsMade sc journal who (call_ended now) (v.entries ++ entry ∷ [])
-    calls_released m = calls_ended who now (call_ended now) entry ended sc journal v.entries below m
+    pub calls_released : AreOwnersCallsMade sc journal who now v.entries → AreOwnersCallsMade sc journal who call_ended (v.entries ++ entry ∷ [])
+    calls_released m = calls_ended who now call_ended entry ended sc journal v.entries below m
         (λ kind at call reply. refused_call sc journal who v.entries c.0 cs found loads kind at c.1 lease call reply m.now)
         (not_refused sc journal who (v.entries ++ entry ∷ []) cs)
-
-  -- a release ends the call
-  pub calls_let_go : Fits s o script v now → IsInOrder v → owner ≡ who → (end : Option CallDone) → next cells c lease found loads made ≡ actions.Step (Release end) → AreOwnersCallsMade sc journal who now v.entries
-      → AreOwnersCallsMade sc journal who (call_ended now) (after_release v end).entries
-  calls_let_go h order mine end is m =
-      let e : end ≡ Some done_here = release_kind cells c lease found loads made end is (kind_of cells c lease found loads made h.under_way.call.0) in
-      subst (λ (d : Option CallDone). AreOwnersCallsMade sc journal who (call_ended now) (after_release v d).entries) (sym e)
-      (calls_released h order mine (release_last cells c lease found loads made end h.under_way.call.0 is) m)

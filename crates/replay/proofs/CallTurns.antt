@@ -36,7 +36,7 @@ use Rattle.core_actors.specs.declared.action.SpaceCall.TheVariants.{Lease, Retur
 use Rattle.core_actors.specs.Actions.{heard_by}
 use Rattle.core_actors.specs.Fits.{Fits}
 use Rattle.core_actors.specs.Hosts.{host_ended, host_action}
-use Rattle.core_actors.specs.Owners.{OwnerState, owner_at_start, owner_ended, next_action, one_made, word_in, after_step as owner_after_step, after_action as owner_after_action, owner_after}
+use Rattle.core_actors.specs.Owners.{OwnerState, owner_at_start, owner_ended, next_action, owner_after}
 use Rattle.space.specs.JournaledSpace.{JournaledSpace}
 use Rattle.space.proofs.Leases.{refused_none}
 use Rattle.replay.specs.CallsMade.{AreOwnersCallsMade, AreCallsMade}
@@ -49,12 +49,6 @@ use Rattle.replay.proofs.CallPlaces.{handed_same, leaves_same, leaves_longer, en
 use Rattle.replay.proofs.CallSteps.{calls_stepped, calls_moved}
 use Rattle.replay.proofs.HostCalls.{host_calls_made}
 use Rattle.replay.proofs.SpaceNow.{space_is}
-
--- ---- the owner after the action that it makes
-
-after_if : (b : Bool) (a : OwnerState) (heard : Heard) (x : Action) → b ≡ false → next_action a ≡ x → (if b then a else owner_after_action a heard (next_action a)) ≡ owner_after_action a heard x
-after_if true a heard x going is = absurd (cc)
-after_if false a heard x going is = ap (λ (y : Action). owner_after_action a heard y) is
 
 module _ (s : Scenario) (m : Machine) (r : IsRunnable s) (p : IsKept s m) (i : ℕ) (a : OwnerState) (at : slice_get m.owners i ≡ Some a) (has : Has m.snapshot.views (suc i) (view_of m.snapshot.views (suc i))) (going : owner_ended a ≡ false) where
   abbrev v : View
@@ -71,10 +65,6 @@ module _ (s : Scenario) (m : Machine) (r : IsRunnable s) (p : IsKept s m) (i : �
 
   place : suc i - 1 ≡ i
   place = omega arith
-
-  -- the owner after the action x, of which it heard
-  after : (heard : Heard) (x : Action) → next_action a ≡ x → owner_after a heard ≡ owner_after_action a heard x
-  after heard x is = after_if (owner_ended a) a heard x going is
 
   -- the machine with a snapshot, a journal and a state of the owner
   abbrev With : Snapshot → List SpaceAction → OwnerState → Machine
@@ -96,15 +86,13 @@ module _ (s : Scenario) (m : Machine) (r : IsRunnable s) (p : IsKept s m) (i : �
   after_a_step step is =
       let found : ℕ = word_found (opening s) m.snapshot.words v step in
       let x : Snapshot = snapshot_after OneOwner (opening s) m.snapshot (suc i) step in
-      subst (λ (b : OwnerState). AreCallsMade s (With x m.journal b)) (sym (after (heard_by step found) (actions.Step step) is))
-      (with_view x.words (view_after OneOwner v step found) (owner_after_step a (word_in (heard_by step found)) step)
-      (calls_stepped s m.journal (suc i) s.geometry (opening s) (script_of s.owners (suc i)) v a fit.1 (p.seats.in_order (suc i) v has) fit.0 going mine OneOwner step (word_in (heard_by step found)) found is))
+      with_view x.words (view_after OneOwner v step found) (owner_after a (heard_by step found))
+      (calls_stepped s m.journal (suc i) s.geometry (opening s) (script_of s.owners (suc i)) v a fit.1 (p.seats.in_order (suc i) v has) fit.0 mine OneOwner step found is)
 
   after_a_move : (step : MoveStep) → next_action a ≡ actions.Move step → AreCallsMade s (After (actions.Move step))
   after_a_move step is =
       let x : Snapshot = snapshot_after_move OneOwner m.snapshot (suc i) step in
-      subst (λ (b : OwnerState). AreCallsMade s (With x m.journal b)) (sym (after heard.Nothing (actions.Move step) is))
-      (with_view x.words (view_after_move OneOwner v step) (one_made a) (calls_moved s m.journal (suc i) OneOwner v a step mine))
+      with_view x.words (view_after_move OneOwner v step) (owner_after a heard.Nothing) (calls_moved s m.journal (suc i) OneOwner v a step fit.1.under_way is mine)
 
   -- ---- leases and returns
 
@@ -127,24 +115,19 @@ module _ (s : Scenario) (m : Machine) (r : IsRunnable s) (p : IsKept s m) (i : �
 
   after_a_lease : (page : PageNo) (kind : Kind) → next_action a ≡ actions.Space (Lease page kind) → (o : Option Leased) → lease_of s.geometry (online_of s) (space_now s m) (suc i) kind ≡ o → AreCallsMade s (Leasing page kind o)
   after_a_lease page kind is None none =
-      subst (λ (b : OwnerState). AreCallsMade s (With m.snapshot m.journal b)) (sym (after (heard.NoFrame (length m.journal)) (actions.Space (Lease page kind)) is))
-      (turn_made s m p.calls i below (owner_after_action a (heard.NoFrame (length m.journal)) (actions.Space (Lease page kind))) v.entries m.snapshot m.journal
+      turn_made s m p.calls i below (owner_after a (heard.NoFrame (length m.journal))) v.entries m.snapshot m.journal
       (entries_same s m p.calls i below m.snapshot.views v has (λ j u there. (u, there, refl)))
-      (calls_after_refusal s m.journal (suc i) v.entries a fit.1.under_way going mine page kind (none_free kind none) is)
-      (leaves_same s m.journal (suc i)) (suc i - 1) place)
+      (calls_after_refusal s m.journal (suc i) v.entries a mine page kind is (none_free kind none))
+      (leaves_same s m.journal (suc i)) (suc i - 1) place
   after_a_lease page kind is (Some l) chosen =
       let frame : FrameNo = record { 0 = l.frame } in
-      subst (λ (b : OwnerState). AreCallsMade s (With (handed m.snapshot (free_seat (length m.owners)) (suc i) l.frame) (m.journal ++ space.Lease (suc i) frame page kind ∷ []) b))
-      (sym (after (heard.Leased frame) (actions.Space (Lease page kind)) is))
-      (with_frame (free_seat (length m.owners)) (suc i) l.frame (space.Lease (suc i) frame page kind) (owner_after_action a (heard.Leased frame) (actions.Space (Lease page kind))) refl
-      (calls_after_lease s m.journal (suc i) v.entries a fit.1.under_way going mine page kind frame is))
+      with_frame (free_seat (length m.owners)) (suc i) l.frame (space.Lease (suc i) frame page kind) (owner_after a (heard.Leased frame)) refl
+      (calls_after_lease s m.journal (suc i) v.entries a mine page kind is frame)
 
   after_a_return : (frame : FrameNo) → next_action a ≡ actions.Space (Return frame) → AreCallsMade s (After (actions.Space (Return frame)))
   after_a_return frame is =
-      subst (λ (b : OwnerState). AreCallsMade s (With (handed m.snapshot (suc i) (free_seat (length m.owners)) frame.0) (m.journal ++ space.Return (suc i) frame ∷ []) b))
-      (sym (after heard.Nothing (actions.Space (Return frame)) is))
-      (with_frame (suc i) (free_seat (length m.owners)) frame.0 (space.Return (suc i) frame) (owner_after_action a heard.Nothing (actions.Space (Return frame))) refl
-      (calls_after_return s m.journal (suc i) v.entries a fit.1.under_way going mine frame is))
+      with_frame (suc i) (free_seat (length m.owners)) frame.0 (space.Return (suc i) frame) (owner_after a heard.Nothing) refl
+      (calls_after_return s m.journal (suc i) v.entries a mine frame is)
 
   -- ---- any action
 

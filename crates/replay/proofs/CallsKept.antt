@@ -19,6 +19,7 @@ use Rattle.evac_model.specs.SpaceJournal.{IsLeasable}
 use Rattle.core_actors.specs.declared.action.LeaseSeen.{LeaseSeen}
 use Rattle.core_actors.specs.declared.action.LeaseSeen.TheVariants.{Refused}
 use Rattle.core_actors.specs.Owners.{OwnerState}
+use Rattle.core_actors.specs.Places.{lease_seen, frame_owed}
 use Rattle.replay.specs.Machine.{space_at}
 use Rattle.replay.specs.Runs.{setting}
 use Rattle.replay.specs.CallsMade.{made_under_way, owed, AreMadeSoFar, HadNoFrame, WasRefusedAt, IsRefusedSince, IsRefusedNow, AreOwnersCallsMade}
@@ -26,7 +27,7 @@ use Rattle.replay.proofs.MadeLists.{made_push, own_push, other_push, first_push,
 
 -- what was made and is owed is that of calls that ended and of the one under way
 abbrev pub Adds : (who : ℕ) → OwnerState → (ended actions : List SpaceAction) → Type 0
-Adds who a ended actions = actions ++ owed who a.back ≡ ended ++ made_under_way who a.left a.lease
+Adds who a ended actions = actions ++ owed who (frame_owed a.place) ≡ ended ++ made_under_way who a.left (lease_seen a.place)
 
 -- ---- the owner changes, and nothing else
 
@@ -34,7 +35,7 @@ module _ (who : ℕ) (a b : OwnerState) (same : (ended actions : List SpaceActio
   made_same : (es : List Entry) (actions : List SpaceAction) → AreMadeSoFar who a es actions → AreMadeSoFar who b es actions
   made_same es actions h = record { ended = h.ended; made = h.made; whole = same h.ended actions h.whole }
 
-  pub calls_same : (s : Scenario) (journal : List SpaceAction) (es : List Entry) → AreOwnersCallsMade s journal who a es → IsRefusedNow s journal who es b.left b.lease → AreOwnersCallsMade s journal who b es
+  pub calls_same : (s : Scenario) (journal : List SpaceAction) (es : List Entry) → AreOwnersCallsMade s journal who a es → IsRefusedNow s journal who es b.left (lease_seen b.place) → AreOwnersCallsMade s journal who b es
   calls_same s journal es h now = record {
     made = made_same es (actions_of who journal) h.made;
     refused = λ e kind at has call reply. let w = h.refused e kind at has call reply in record {
@@ -48,18 +49,18 @@ module _ (who : ℕ) (a b : OwnerState) (same : (ended actions : List SpaceActio
 -- an owner with the same calls, lease and frame to give back
 pub record IsAlike (a b : OwnerState) : Type 0 where
   pub left : b.left ≡ a.left
-  pub lease : b.lease ≡ a.lease
-  pub back : b.back ≡ a.back
+  pub lease : lease_seen b.place ≡ lease_seen a.place
+  pub back : frame_owed b.place ≡ frame_owed a.place
 
 module _ (who : ℕ) (a b : OwnerState) (q : IsAlike a b) where
-  under_alike : made_under_way who a.left a.lease ≡ made_under_way who b.left b.lease
-  under_alike = ap (λ (l : List (PageNo × Call)). made_under_way who l a.lease) (sym q.left) ∙ ap (λ (x : LeaseSeen). made_under_way who b.left x) (sym q.lease)
+  under_alike : made_under_way who a.left (lease_seen a.place) ≡ made_under_way who b.left (lease_seen b.place)
+  under_alike = ap (λ (l : List (PageNo × Call)). made_under_way who l (lease_seen a.place)) (sym q.left) ∙ ap (λ (x : LeaseSeen). made_under_way who b.left x) (sym q.lease)
 
   pub calls_alike : (s : Scenario) (journal : List SpaceAction) (es : List Entry) → AreOwnersCallsMade s journal who a es → AreOwnersCallsMade s journal who b es
   calls_alike s journal es h = calls_same who a b
       (λ ended actions e. ap (λ (f : Option FrameNo). actions ++ owed who f) q.back ∙ (e ∙ ap (λ (l : List SpaceAction). ended ++ l) under_alike))
       s journal es h
-      (subst (λ (l : List (PageNo × Call)). IsRefusedNow s journal who es l b.lease) (sym q.left)
+      (subst (λ (l : List (PageNo × Call)). IsRefusedNow s journal who es l (lease_seen b.place)) (sym q.left)
       (subst (λ (x : LeaseSeen). IsRefusedNow s journal who es a.left x) (sym q.lease) h.now))
 
 -- ---- the journal has one more action
@@ -93,7 +94,7 @@ module _ (s : Scenario) (journal : List SpaceAction) (x : SpaceAction) where
         before = subst (λ (l : List SpaceAction). AreMadeBy (filter (λ y. nat_lt y.ticket e.ticket) es) l) (sym (first_push who at journal x w.none.in_journal)) w.before;
         behind = subst (λ (l : List SpaceAction). AreMadeSoFar who a (filter (λ y. nat_lt e.ticket y.ticket) es) l) (sym (behind_push_other who at journal x w.none.in_journal other)) w.behind;
       };
-      now = now_other es a.left a.lease h.now;
+      now = now_other es a.left (lease_seen a.place) h.now;
     }
 
   -- of the owner
@@ -101,7 +102,7 @@ module _ (s : Scenario) (journal : List SpaceAction) (x : SpaceAction) where
     made_own : (es : List Entry) (actions : List SpaceAction) → AreMadeSoFar who a es actions → AreMadeSoFar who b es (actions ++ x ∷ [])
     made_own es actions h = record { ended = h.ended; made = h.made; whole = goes h.ended actions h.whole }
 
-    pub calls_own : (es : List Entry) → AreOwnersCallsMade s journal who a es → IsRefusedNow s (journal ++ x ∷ []) who es b.left b.lease → AreOwnersCallsMade s (journal ++ x ∷ []) who b es
+    pub calls_own : (es : List Entry) → AreOwnersCallsMade s journal who a es → IsRefusedNow s (journal ++ x ∷ []) who es b.left (lease_seen b.place) → AreOwnersCallsMade s (journal ++ x ∷ []) who b es
     calls_own es h now = record {
       made = subst (λ (l : List SpaceAction). AreMadeSoFar who b es l) (sym (own_push who journal x own)) (made_own es (actions_of who journal) h.made);
       refused = λ e kind at has call reply. let w = h.refused e kind at has call reply in record {
@@ -117,9 +118,9 @@ module _ (s : Scenario) (journal : List SpaceAction) (x : SpaceAction) where
 
 -- what the call did to the space, and the frame to give back, are those of its entry
 pub record IsEndedBy (who : ℕ) (a b : OwnerState) (e : Entry) : Type 0 where
-  pub none_owed : a.back ≡ None
-  pub waits : made_under_way who b.left b.lease ≡ []
-  pub made : IsMadeBy e (made_under_way who a.left a.lease ++ owed who b.back)
+  pub none_owed : frame_owed a.place ≡ None
+  pub waits : made_under_way who b.left (lease_seen b.place) ≡ []
+  pub made : IsMadeBy e (made_under_way who a.left (lease_seen a.place) ++ owed who (frame_owed b.place))
 
 -- the entry has no later one, and is none itself
 none_later_push : (es : List Entry) (e : Entry) → AllByRecursion (λ x. x.ticket < e.ticket) es → filter (λ x. nat_lt e.ticket x.ticket) (es ++ e ∷ []) ≡ []
@@ -133,14 +134,14 @@ none_later_push es e below =
 module _ (who : ℕ) (a b : OwnerState) (e : Entry) (end : IsEndedBy who a b e) where
   made_ended : (es : List Entry) (actions : List SpaceAction) → AreMadeSoFar who a es actions → AreMadeSoFar who b (es ++ e ∷ []) actions
   made_ended es actions h =
-      let under : List SpaceAction = made_under_way who a.left a.lease in
-      let mine : List SpaceAction = under ++ owed who b.back in
+      let under : List SpaceAction = made_under_way who a.left (lease_seen a.place) in
+      let mine : List SpaceAction = under ++ owed who (frame_owed b.place) in
       let so_far : actions ≡ h.ended ++ under = sym (append-nil actions) ∙ (ap (λ (f : Option FrameNo). actions ++ owed who f) (sym end.none_owed) ∙ h.whole) in
       record {
         ended = h.ended ++ mine;
         made = made_push es e h.ended mine h.made end.made;
-        whole = ap (λ (l : List SpaceAction). l ++ owed who b.back) so_far
-            ∙ (append_assoc h.ended under (owed who b.back)
+        whole = ap (λ (l : List SpaceAction). l ++ owed who (frame_owed b.place)) so_far
+            ∙ (append_assoc h.ended under (owed who (frame_owed b.place))
             ∙ (sym (append-nil (h.ended ++ mine)) ∙ ap (λ (l : List SpaceAction). h.ended ++ mine ++ l) (sym end.waits)));
       }
 
@@ -157,19 +158,19 @@ module _ (who : ℕ) (a b : OwnerState) (e : Entry) (end : IsEndedBy who a b e) 
         }
 
     -- the refusal of the call that ends
-    is_refused : (kind : Kind) (at : ℕ) → IsRefusedSince s journal who es kind at → b.back ≡ None → WasRefusedAt s journal who b (es ++ e ∷ []) e.ticket kind at
+    is_refused : (kind : Kind) (at : ℕ) → IsRefusedSince s journal who es kind at → frame_owed b.place ≡ None → WasRefusedAt s journal who b (es ++ e ∷ []) e.ticket kind at
     is_refused kind at w none = record {
       none = w.none;
       before = subst (λ (l : List Entry). AreMadeBy l (actions_of who (take at journal))) (sym (earlier_push es e e.ticket (omega arith) ∙ all_earlier es e.ticket below)) w.before;
       behind = record {
         ended = [];
         made = subst (λ (l : List Entry). AreMadeBy l []) (sym (none_later_push es e below)) refl;
-        whole = ap (λ (l : List SpaceAction). l ++ owed who b.back) w.behind ∙ (ap (λ (f : Option FrameNo). owed who f) none ∙ sym end.waits);
+        whole = ap (λ (l : List SpaceAction). l ++ owed who (frame_owed b.place)) w.behind ∙ (ap (λ (f : Option FrameNo). owed who f) none ∙ sym end.waits);
       };
     }
 
-    pub calls_ended : AreOwnersCallsMade s journal who a es → ((kind : Kind) (at : ℕ) → e.call ≡ Alloc kind → e.reply ≡ NoFrame at → IsRefusedSince s journal who es kind at × (b.back ≡ None))
-        → IsRefusedNow s journal who (es ++ e ∷ []) b.left b.lease → AreOwnersCallsMade s journal who b (es ++ e ∷ [])
+    pub calls_ended : AreOwnersCallsMade s journal who a es → ((kind : Kind) (at : ℕ) → e.call ≡ Alloc kind → e.reply ≡ NoFrame at → IsRefusedSince s journal who es kind at × (frame_owed b.place ≡ None))
+        → IsRefusedNow s journal who (es ++ e ∷ []) b.left (lease_seen b.place) → AreOwnersCallsMade s journal who b (es ++ e ∷ [])
     calls_ended h refusal now = record {
       made = made_ended es (actions_of who journal) h.made;
       refused = λ y kind at has call reply. ⊎_elim

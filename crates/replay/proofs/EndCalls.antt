@@ -19,6 +19,7 @@ use Rattle.evac_model.specs.Scripts.{entries_of}
 use Rattle.evac_model.specs.SpaceJournal.{space_at_start}
 use Rattle.core_state.specs.Histories.{IsHistoryOf}
 use Rattle.core_actors.specs.Owners.{OwnerState}
+use Rattle.core_actors.specs.Places.{lease_seen, frame_owed}
 use Rattle.report.specs.declared.report.Report.{Report}
 use Rattle.replay.specs.CallsMade.{made_under_way, owed, AreMadeSoFar, WasRefusedAt}
 use Rattle.replay.specs.Keeping.{IsKept}
@@ -30,13 +31,13 @@ use Rattle.replay.proofs.Members.{there}
 
 -- ---- an owner that has no call, and no frame to give back
 
-module _ (who : ℕ) (a : OwnerState) (left : a.left ≡ []) (back : a.back ≡ None) (es : List Entry) (actions : List SpaceAction) (h : AreMadeSoFar who a es actions) where
+module _ (who : ℕ) (a : OwnerState) (left : a.left ≡ []) (back : (frame_owed a.place) ≡ None) (es : List Entry) (actions : List SpaceAction) (h : AreMadeSoFar who a es actions) where
   none_under_way : actions ≡ h.ended
   none_under_way =
       sym (append-nil actions)
       ∙ (ap (λ (f : Option FrameNo). actions ++ owed who f) (sym back)
       ∙ (h.whole
-      ∙ (ap (λ (l : List (PageNo × Call)). h.ended ++ made_under_way who l a.lease) left
+      ∙ (ap (λ (l : List (PageNo × Call)). h.ended ++ made_under_way who l (lease_seen a.place)) left
       ∙ append-nil h.ended)))
 
   -- its actions are those of its entries
@@ -65,7 +66,7 @@ module _ (s : Scenario) (m : Machine) (k : IsKept s m) (ended : AllEnded m.owner
   -- ---- refusals
 
   -- the refusal that an entry of an owner's seat tells of
-  refused_at : (e : Entry) (kind : Kind) (at i : ℕ) (a : OwnerState) (es : List Entry) → e.caller ≡ suc i → entries_of (suc i) h ≡ es → a.left ≡ [] → a.back ≡ None → WasRefusedAt s m.journal (suc i) a es e.ticket kind at
+  refused_at : (e : Entry) (kind : Kind) (at i : ℕ) (a : OwnerState) (es : List Entry) → e.caller ≡ suc i → entries_of (suc i) h ≡ es → a.left ≡ [] → (frame_owed a.place) ≡ None → WasRefusedAt s m.journal (suc i) a es e.ticket kind at
       → IsRefusedAt s.geometry (online_of s) (space_at_start s.geometry s.start) m.journal (entries_of e.caller h) e kind at
   refused_at e kind at i a es caller same left back w =
       let entries_are : es ≡ entries_of e.caller h = sym (ap (λ (c : ℕ). entries_of c h) caller ∙ same) in

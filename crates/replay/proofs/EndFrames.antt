@@ -34,8 +34,11 @@ use Rattle.core_state.specs.Words.{entry_word_of, kind_in}
 use Rattle.core_state.proofs.Cells.{at_entry}
 use Rattle.core_state.proofs.Frames.{maps_to-is}
 use Rattle.core_state.proofs.Lists.{sum_by_member, sum_by_none, member_le_sum_by, within}
-use Rattle.core_actors.specs.Fits.{hand_in, hand_from, frame_in_hand, IsHandFor, HasInHand}
-use Rattle.core_actors.specs.Owners.{OwnerState, owner_at_start, owner_ended}
+use Rattle.core_actors.specs.declared.place.Place.{Place}
+use Rattle.core_actors.specs.declared.place.Place.TheVariants.{Between, InCall}
+use Rattle.core_actors.specs.Fits.{has_at, seat_has, IsSeatWith}
+use Rattle.core_actors.specs.Places.{frame_owed}
+use Rattle.core_actors.specs.Owners.{OwnerState, owner_at_start, owner_ended, are_none, is_nothing}
 use Rattle.space.specs.SpaceInside.{IsSpace}
 use Rattle.space.proofs.BlockFrames.{frame_in_witness, frame_in_from}
 use Rattle.replay.specs.FramesOut.{HasFrame, space_now, unplugged_now}
@@ -44,16 +47,20 @@ use Rattle.replay.specs.Keeping.{IsKept}
 use Rattle.replay.specs.Machine.{Machine, free_seat, unplugged_seat, owner_of, device_at}
 use Rattle.replay.specs.Runs.{opening, HaveEnded, block_list}
 use Rattle.replay.proofs.EndHost.{blocks_at_end}
-use Rattle.replay.proofs.EndedOwners.{left_at_end, back_at_end}
 use Rattle.replay.proofs.SpaceNow.{space_is}
 
 -- ---- an owner that has ended
 
 -- it has no frame in hand
-ended_hand : (a : OwnerState) (v : View) (frame : ℕ) → owner_ended a ≡ true → HasInHand v (frame_in_hand a) (IsHandFor a.left a) → hand_frame v frame ≡ None
-ended_hand a v frame ended has =
-    let empty : frame_in_hand a ≡ None = ap (λ (b : Option FrameNo). hand_from b a) (back_at_end a ended) ∙ ap (λ (l : List (PageNo × Call)). hand_in l a) (left_at_end a ended) in
-    subst (λ (f : Option FrameNo). HasInHand v f (IsHandFor a.left a)) empty has frame
+ended_at : (size cells : ℕ) (place : Place) (left : List (PageNo × Call)) (v : View) (frame : ℕ) → (are_none left && is_nothing (frame_owed place)) ≡ true → IsSeatWith size left (has_at cells place left) v → hand_frame v frame ≡ None
+ended_at size cells (Between None) left v frame ended has = has.hand frame
+ended_at size cells (Between (Some f)) [] v frame ended has = absurd cc
+ended_at size cells (Between (Some f)) (c ∷ cs) v frame ended has = absurd cc
+ended_at size cells (InCall at) [] v frame ended has = has.hand frame
+ended_at size cells (InCall at) (c ∷ cs) v frame ended has = absurd cc
+
+ended_hand : (size : ℕ) (a : OwnerState) (v : View) (frame : ℕ) → owner_ended a ≡ true → IsSeatWith size a.left (seat_has a) v → hand_frame v frame ≡ None
+ended_hand size a v frame ended has = ended_at size a.cells a.place a.left v frame ended has
 
 -- ---- a frame that is out
 
@@ -112,7 +119,7 @@ module _ (s : Scenario) (m : Machine) (r : IsRunnable s) (kept : IsKept s m) (en
         let at = slice_get-get_or m.owners i (owner_at_start 0 0 []) lt in
         let has = slice_get-get_or m.snapshot.views (suc i) spent (let n = kept.seats.owners in let k = kept.seats.seats in omega arith) in
         let fits = kept.seats.fits i (owner_of m.owners (suc i)) (view_of m.snapshot.views (suc i)) at has in
-        ended_hand (owner_of m.owners (suc i)) (view_of m.snapshot.views (suc i)) frame (ended.owners i (owner_of m.owners (suc i)) at) fits.1.hand
+        ended_hand (opening s).cells (owner_of m.owners (suc i)) (view_of m.snapshot.views (suc i)) frame (ended.owners i (owner_of m.owners (suc i)) at) fits.1.has
 
     in_hand_at : (seat : ℕ) → seat < length m.owners + 4 → hand_frame (view_of m.snapshot.views seat) frame ≡ None
     in_hand_at zero lt = empty_place _ not_drivers

@@ -15,7 +15,10 @@ use Rattle.core_state.specs.declared.view.View.{View}
 use Rattle.core_state.specs.Histories.{AllLetGo}
 use Rattle.core_state.specs.Views.{Has}
 use Rattle.core_actors.specs.Owners.{OwnerState, are_none, is_nothing, owner_ended}
-use Rattle.core_actors.specs.Fits.{HoldsFor, Fits}
+use Rattle.core_actors.specs.declared.place.Place.{Place}
+use Rattle.core_actors.specs.declared.place.Place.TheVariants.{Between, InCall}
+use Rattle.core_actors.specs.Fits.{Holds, has_at, Fits}
+use Rattle.core_actors.specs.Places.{frame_owed}
 use Rattle.replay.specs.Keeping.{IsIdle, IsKept}
 use Rattle.replay.specs.Machine.{Machine}
 use Rattle.replay.specs.Runs.{opening, AllEnded}
@@ -31,22 +34,26 @@ none_left (c ∷ cs) back e = absurd (false≢true e)
 module _ (a : OwnerState) (ended : owner_ended a ≡ true) where
   -- it has no call
   pub left_at_end : a.left ≡ []
-  left_at_end = (none_left a.left a.back ended).0
+  left_at_end = (none_left a.left (frame_owed a.place) ended).0
 
   -- it has no frame to give back
-  pub back_at_end : a.back ≡ None
-  back_at_end = (none_left a.left a.back ended).1
+  pub back_at_end : frame_owed a.place ≡ None
+  back_at_end = (none_left a.left (frame_owed a.place) ended).1
 
   module _ (s : Sizes) (o : Opening) (v : View) (script : List (PageNo × Call)) (f : Fits s o script v a) where
     -- its seat has an entry for each call
     entries_at_end : map numbered_call v.entries ≡ enumerate_from 0 script
     entries_at_end =
         sym (append-nil (map numbered_call v.entries))
-        ∙ (ap (λ (l : List (PageNo × Call)). map numbered_call v.entries ++ enumerate_from (length v.entries) l) (sym left_at_end) ∙ f.entries)
+        ∙ (ap (λ (l : List (PageNo × Call)). map numbered_call v.entries ++ enumerate_from (length v.entries) l) (sym left_at_end) ∙ f.belongs.entries)
 
     -- its seat holds no page
     held_at_end : v.held ≡ None
-    held_at_end = subst (λ (l : List (PageNo × Call)). HoldsFor o.cells l a v.held) left_at_end f.held
+    held_at_end = none_held a.cells o.cells a.place (subst (λ (l : List (PageNo × Call)). Holds o.cells l ((has_at a.cells a.place l).page) v.held) left_at_end f.has.held)
+      where
+        none_held : (cells size : ℕ) (place : Place) → Holds size [] ((has_at cells place []).page) v.held → v.held ≡ None
+        none_held cells size (Between back) h = h
+        none_held cells size (InCall at) h = h
 
 -- ---- the seats of a machine whose owners have all ended
 
@@ -56,7 +63,7 @@ pub record IsEndedSeat (s : Scenario) (m : Machine) (place : ℕ) (v : View) : T
   pub owner : OwnerState
   pub here : slice_get m.owners place ≡ Some owner
   pub left : owner.left ≡ []
-  pub back : owner.back ≡ None
+  pub back : frame_owed owner.place ≡ None
   pub entries : map numbered_call v.entries ≡ enumerate_from 0 (script_of s.owners (suc place))
   pub held : v.held ≡ None
   pub callers : AllByRecursion (λ e. e.caller ≡ suc place) v.entries
@@ -81,7 +88,7 @@ module _ (s : Scenario) (m : Machine) (k : IsKept s m) (ended : AllEnded m.owner
         back = back_at_end a.0 done;
         entries = entries_at_end a.0 done s.geometry (opening s) v (script_of s.owners (suc i)) f.1;
         held = held_at_end a.0 done s.geometry (opening s) v (script_of s.owners (suc i)) f.1;
-        callers = subst (λ (n : ℕ). AllByRecursion (λ e. e.caller ≡ n) v.entries) f.0 f.1.callers;
+        callers = subst (λ (n : ℕ). AllByRecursion (λ e. e.caller ≡ n) v.entries) f.0 f.1.belongs.callers;
       }
 
   -- a seat is an owner's, or makes no calls

@@ -62,7 +62,7 @@ bound_is_enough g calls commands =
 module _ (s : Scenario) (keep : TurnsKeep s) (start : IsKept s (machine_at_start s)) where
   actions_at_start : all_actions_left (machine_at_start s) ≤ most_of_all s.geometry (call_count s.owners) (length s.host)
   actions_at_start =
-      let owners = few_from s.geometry 1 s.owners (λ i a at. (fits_at s (machine_at_start s) start i a at).calls) in
+      let owners = few_from s.geometry 1 s.owners (λ i a at. (fits_at s (machine_at_start s) start i a at).belongs.calls) in
       omega arith
 
   ends_within : (n : ℕ) → most_of_all s.geometry (call_count s.owners) (length s.host) ≤ n → all_actions_left (after_turns (setting s) (machine_at_start s) (schedule s n)) ≡ 0

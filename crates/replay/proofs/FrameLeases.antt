@@ -25,12 +25,13 @@ use Rattle.core_state.proofs.Lists.{within}
 use Rattle.core_actors.specs.declared.action.Action.TheVariants as actions
 use Rattle.core_actors.specs.declared.action.Heard.{Heard}
 use Rattle.core_actors.specs.declared.action.Heard.TheVariants as heard
-use Rattle.core_actors.specs.declared.action.LeaseSeen.{LeaseSeen}
 use Rattle.core_actors.specs.declared.action.SpaceCall.TheVariants.{Lease}
+use Rattle.core_actors.specs.declared.place.Place.{Place}
 use Rattle.core_actors.specs.Fits.{Fits}
+use Rattle.core_actors.specs.Places.{ends_call, frame_owed}
 use Rattle.core_actors.specs.Owners.{OwnerState, owner_ended, next_action, owner_after}
-use Rattle.core_actors.proofs.ActionKinds.{ActionKind, leases, zeroes, marks_zeros, takes, draws, loads_cell, stores_cell, marks, maps, unmaps, releases, action_at, kind_at}
-use Rattle.core_actors.proofs.AtRest.{lease_allowed}
+use Rattle.core_actors.proofs.Allowed.{lease_allowed}
+use Rattle.core_actors.proofs.Asks.{leases_at}
 use Rattle.core_actors.proofs.HandSteps.{hand_without_one, hand_with_one}
 use Rattle.space.proofs.Journals.{space_after-append}
 use Rattle.space.proofs.Leases.{leased_free}
@@ -41,45 +42,18 @@ use Rattle.replay.specs.Machine.{Machine, free_seat, space_at}
 use Rattle.replay.specs.Runs.{opening, setting}
 use Rattle.replay.specs.FramesOut.{space_now, IsOutForCall, AreFramesPlaced}
 use Rattle.replay.proofs.FramesAfter.{IsMoved, placed_again, placed_later}
-use Rattle.replay.proofs.FrameSteps.{after_is}
+use Rattle.replay.proofs.FrameSteps.{out_goes_on}
 use Rattle.replay.proofs.OutForCalls.{not_none, is_out, out_still}
 use Rattle.replay.proofs.SpaceNow.{space_is}
 
 -- ---- which lease it is
 
-module _ (n : ℕ) (c : PageNo × Call) (lease : LeaseSeen) (found : ℕ) (loads : List ℕ) (made : ℕ) (page : PageNo) (kind : Kind) (is : action_at n c lease found loads made ≡ actions.Space (Lease page kind)) where
-  lease_is : ActionKind n c lease found loads made → (c.0 ≡ page) × (c.1 ≡ Alloc kind)
-  lease_is (leases given ec z e) = let same : given ≡ kind = cc in (cc, ec ∙ ap (λ (k : Kind). Alloc k) same)
-  lease_is (zeroes other f j ec el z lt e) = absurd (cc)
-  lease_is (marks_zeros other f ec el z e) = absurd (cc)
-  lease_is (takes z e) = absurd (cc)
-  lease_is (draws z e) = absurd (cc)
-  lease_is (loads_cell j plain z lt mapped e) = absurd (cc)
-  lease_is (stores_cell j plain z lt mapped e) = absurd (cc)
-  lease_is (marks plain z lt mapped e) = absurd (cc)
-  lease_is (maps other f ec el un z e) = absurd (cc)
-  lease_is (unmaps ec freed z e) = absurd (cc)
-  lease_is (releases z e) = absurd (cc)
-
-module _ (s : Sizes) (o : Opening) (v : View) (script : List (PageNo × Call)) (owner cells : ℕ) (lease : LeaseSeen) (found : ℕ) (loads : List ℕ) (made : ℕ) (page : PageNo) (kind : Kind) (st : SpaceState) (f : ℕ) where
-  abbrev state : List (PageNo × Call) → Option FrameNo → OwnerState
-  state left back = record { owner = owner; cells = cells; left = left; lease = lease; found = found; loads = loads; made = made; back = back }
-
-  abbrev IsOutAs : PageNo → (kind : Kind) → Type 0
-  IsOutAs q k = out_for st f ≡ Some (record { page = q.0; kind = k })
-
-  out_from : (left : List (PageNo × Call)) (back : Option FrameNo) → Fits s o script v (state left back) → owner_ended (state left back) ≡ false → next_action (state left back) ≡ actions.Space (Lease page kind)
-      → IsOutAs page kind → IsOutForCall st left back f
-  out_from left (Some g) fits going is out = absurd (cc)
-  out_from [] None fits going is out = absurd (cc)
-  out_from (c ∷ cs) None fits going is out =
-      let k = lease_is cells c lease found loads made page kind is (kind_at cells c lease found loads s (fits.calls.0).call made fits.under_way.call.0) in
-      subst (λ (call : Call). IsOutForCall st ((c.0, call) ∷ cs) None f) (sym k.1) (subst (λ (q : PageNo). IsOutAs q kind) (sym k.0) out)
-
 -- a frame that is out as the lease asked is out for the call
-out_as_asked : (s : Sizes) (o : Opening) (v : View) (script : List (PageNo × Call)) (a : OwnerState) (page : PageNo) (kind : Kind) (st : SpaceState) (f : ℕ) → Fits s o script v a → owner_ended a ≡ false → next_action a ≡ actions.Space (Lease page kind)
-    → out_for st f ≡ Some (record { page = page.0; kind = kind }) → IsOutForCall st a.left a.back f
-out_as_asked s o v script a page kind st f fits going is out = out_from s o v script a.owner a.cells a.lease a.found a.loads a.made page kind st f a.left a.back fits going is out
+out_as_asked : (a : OwnerState) (page : PageNo) (kind : Kind) (st : SpaceState) (f : ℕ) → next_action a ≡ actions.Space (Lease page kind) → out_for st f ≡ Some (record { page = page.0; kind = kind })
+    → IsOutForCall st a.left (frame_owed a.place) f
+out_as_asked a page kind st f is out =
+    let r = leases_at a.place a.left page kind is in
+    subst (λ (p : Place). IsOutForCall st a.left (frame_owed p) f) (sym r.place_is) (subst (λ (l : List (PageNo × Call)). IsOutForCall st l None f) (sym r.left_is) out)
 
 -- ---- the lease
 
@@ -95,7 +69,7 @@ module _ (s : Scenario) (m : Machine) (r : IsRunnable s) (p : IsKept s m) (i : �
   fits = (p.seats.fits i a v at has).1
 
   may : IsAtRest (opening s) v × (page.0 < s.geometry.pages)
-  may = lease_allowed s.geometry (opening s) v script a page kind fits going is
+  may = lease_allowed s.geometry (opening s) v script a fits page kind is
 
   below : i < length m.owners
   below = within m.owners i a at
@@ -103,12 +77,12 @@ module _ (s : Scenario) (m : Machine) (r : IsRunnable s) (p : IsKept s m) (i : �
   abbrev free : ℕ
   free = free_seat (length m.owners)
 
-  was_out : (f : ℕ) → IsSome (hand_frame v f) → IsOutForCall st a.left a.back f
+  was_out : (f : ℕ) → IsSome (hand_frame v f) → IsOutForCall st a.left (frame_owed a.place) f
   was_out f some = p.frames.in_hand i a f at (subst (λ (w : View). IsSome (hand_frame w f)) (sym (get_or_from_slice_get m.snapshot.views (suc i) v spent has)) some)
 
   -- the call under way stays the same, whatever the lease gives
-  out_then : (x : Heard) (after : SpaceState) (f : ℕ) → IsOutForCall after a.left a.back f → IsOutForCall after (owner_after a x).left (owner_after a x).back f
-  out_then x after f out = subst (λ (b : OwnerState). IsOutForCall after b.left b.back f) (sym (after_is a x (actions.Space (Lease page kind)) going is)) out
+  out_then : (x : Heard) (after : SpaceState) (f : ℕ) → IsOutForCall after a.left (frame_owed a.place) f → IsOutForCall after (owner_after a x).left (frame_owed (owner_after a x).place) f
+  out_then x after f out = let r = leases_at a.place a.left page kind is in out_goes_on after a x f (ap ends_call r.place_is) (ap frame_owed r.place_is) out
 
   -- `n` is the place of the owner
   pub refusal_placed : (at_place n : ℕ) → n ≡ i → AreFramesPlaced s (record m { owners = set m.owners n (owner_after a (heard.NoFrame at_place)) })
@@ -171,7 +145,7 @@ module _ (s : Scenario) (m : Machine) (r : IsRunnable s) (p : IsKept s m) (i : �
     given_hand = hand_without_one giver.hand l.frame (let low = leasable.there in let long = giver_long in omega arith)
 
     got_hand : hand_with v.hand giver.hand l.frame 1 ≡ set v.hand l.frame (get_or giver.hand l.frame None)
-    got_hand = hand_with_one giver.hand v.hand l.frame (let low = leasable.there in let long = giver_long in omega arith) (let low = leasable.there in let long = fits.seated.hand in omega arith)
+    got_hand = hand_with_one giver.hand v.hand l.frame (let low = leasable.there in let long = giver_long in omega arith) (let low = leasable.there in let long = fits.belongs.seated.hand in omega arith)
 
     free_frame : (f : ℕ) → hand_frame (view_of views free) f ≡ get_or (set giver.hand l.frame None) f None
     free_frame f = ap (λ (w : View). hand_frame w f) free_then ∙ ap (λ (h : List (Option HandFrame)). get_or h f None) given_hand
@@ -197,13 +171,13 @@ module _ (s : Scenario) (m : Machine) (r : IsRunnable s) (p : IsKept s m) (i : �
       out = out_other;
       free = λ f ne. free_frame f ∙ get_or-set_other giver.hand l.frame f None None ne;
       unmapped = λ q low on same. none-some _ (sym leasable.not_out ∙ (ap (λ (f : ℕ). out_for st f) (sym same) ∙ p.frames.mapped q low on));
-      in_no_hand = λ j b ne at_j had. is_out st l.frame b.left b.back (p.frames.in_hand j b l.frame at_j had) leasable.not_out;
+      in_no_hand = λ j b ne at_j had. is_out st l.frame b.left (frame_owed b.place) (p.frames.in_hand j b l.frame at_j had) leasable.not_out;
     }
 
-    in_hand_then : (f : ℕ) → IsSome (hand_frame (view_of views (suc i)) f) → IsOutForCall then a.left a.back f
+    in_hand_then : (f : ℕ) → IsSome (hand_frame (view_of views (suc i)) f) → IsOutForCall then a.left (frame_owed a.place) f
     in_hand_then f some = dite (ℕ_discrete f l.frame)
-        (λ same. out_as_asked s.geometry (opening s) v script a page kind then f fits going is (ap (λ (g : ℕ). out_for then g) same ∙ out_here))
-        (λ ne. out_still st f then a.left a.back (out_other f ne) (was_out f (subst (λ (x : Option HandFrame). IsSome x) (my_frame f ne) some)))
+        (λ same. out_as_asked a page kind then f is (ap (λ (g : ℕ). out_for then g) same ∙ out_here))
+        (λ ne. out_still st f then a.left (frame_owed a.place) (out_other f ne) (was_out f (subst (λ (x : Option HandFrame). IsSome x) (my_frame f ne) some)))
 
     pub lease_placed : (n : ℕ) → n ≡ i → AreFramesPlaced s (record m {
       snapshot = record { words = m.snapshot.words; views = views };

@@ -31,21 +31,28 @@ use Rattle.core_state.proofs.FrameSteps.{hand-set_same}
 use Rattle.core_state.proofs.Holding.{for_some}
 use Rattle.core_state.proofs.Lists.{within}
 use Rattle.core_state.proofs.WordsAt.{entry_word-here, entry_word-other, entry_within}
-use Rattle.core_moves.proofs.Moves.{for_some_frame, in_range}
+use Rattle.core_state.proofs.RoomMoves.{for_some_in}
+use Rattle.core_moves.proofs.Moves.{in_range}
 use Rattle.core_moves.proofs.MoveWords.{frame_of-mapped, kind_in-mapped, mapped_bit-unmapped}
 use Rattle.core_actors.specs.declared.action.Action.TheVariants as actions
 use Rattle.core_actors.specs.declared.action.Heard.TheVariants.{Nothing}
-use Rattle.core_actors.specs.declared.action.LeaseSeen.{LeaseSeen}
-use Rattle.core_actors.specs.Fits.{since_take, IsHeldFor, Fits}
-use Rattle.core_actors.specs.Owners.{OwnerState, owner_ended, next_action, owner_after}
-use Rattle.core_actors.proofs.AllowedMoves.{plain_moves, alloc_moves, free_moves, next_move_allowed}
-use Rattle.core_actors.proofs.SeatPlaces.{holds_some}
+use Rattle.core_actors.specs.declared.place.Place.{Place}
+use Rattle.core_actors.specs.declared.place.Place.TheVariants.{Between, InCall}
+use Rattle.core_actors.specs.declared.place.CallPlace.{CallPlace}
+use Rattle.core_actors.specs.declared.place.CallPlace.TheVariants.{Zero, MarkZeros, Take, Draw, Load, Store, Mark, Release}
+use Rattle.core_actors.specs.declared.place.CallPlace.TheVariants as places
+use Rattle.core_actors.specs.Fits.{PageHeld, IsHeldAs, Fits}
+use Rattle.core_actors.specs.Owners.{OwnerState, action_in, owner_ended, next_action, owner_after}
+use Rattle.core_actors.specs.Places.{action_at, ends_call, frame_owed}
+use Rattle.core_actors.proofs.Allowed.{next_move_allowed}
+use Rattle.core_actors.proofs.Asks.{first_moves}
+use Rattle.core_actors.proofs.Cases.{with_move}
 use Rattle.replay.specs.Keeping.{IsKept}
 use Rattle.replay.specs.Machine.{Machine}
 use Rattle.replay.specs.Runs.{opening}
 use Rattle.replay.specs.FramesOut.{space_now, IsOutForCall, AreFramesPlaced}
 use Rattle.replay.proofs.FramesAfter.{AreMappedOut, placed_again}
-use Rattle.replay.proofs.FrameSteps.{after_is}
+use Rattle.replay.proofs.FrameSteps.{out_goes_on}
 
 -- ---- which step it is
 
@@ -53,39 +60,61 @@ use Rattle.replay.proofs.FrameSteps.{after_is}
 -- is held.
 data MoveKind (v : View) (a : OwnerState) (step : MoveStep) : Type 0 where
   maps_it : (page : PageNo) (kind : Kind) (frame : FrameNo) → step ≡ Map frame kind → ((h : Held) → v.held ≡ Some h → h.page ≡ page)
-      → ((st : SpaceState) (f : ℕ) → IsOutForCall st a.left a.back f → out_for st f ≡ Some (record { page = page.0; kind = kind })) → MoveKind v a step
+      → ((st : SpaceState) (f : ℕ) → IsOutForCall st a.left (frame_owed a.place) f → out_for st f ≡ Some (record { page = page.0; kind = kind })) → MoveKind v a step
   unmaps_it : (page : PageNo) → step ≡ Unmap → ((h : Held) → v.held ≡ Some h → h.page ≡ page)
-      → ((st : SpaceState) (f : ℕ) (kind : Kind) → out_for st f ≡ Some (record { page = page.0; kind = kind }) → IsOutForCall st a.left a.back f) → MoveKind v a step
+      → ((st : SpaceState) (f : ℕ) (kind : Kind) → out_for st f ≡ Some (record { page = page.0; kind = kind }) → IsOutForCall st a.left (frame_owed a.place) f) → MoveKind v a step
 
-module _ (s : Sizes) (o : Opening) (v : View) (script : List (PageNo × Call)) (owner cells : ℕ) (lease : LeaseSeen) (found : ℕ) (loads : List ℕ) (made : ℕ) where
-  abbrev state : List (PageNo × Call) → Option FrameNo → OwnerState
-  state left back = record { owner = owner; cells = cells; left = left; lease = lease; found = found; loads = loads; made = made; back = back }
+module _ (s : Sizes) (o : Opening) (v : View) (script : List (PageNo × Call)) (owner cells : ℕ) where
+  abbrev state : Place → List (PageNo × Call) → OwnerState
+  state place left = record { owner = owner; cells = cells; left = left; place = place }
 
-  page_held : (c : PageNo × Call) (cs : List (PageNo × Call)) → Fits s o script v (state (c ∷ cs) None) → 0 < since_take (state (c ∷ cs) None) c → (h : Held) → v.held ≡ Some h → h.page ≡ c.0
-  page_held c cs fits late h is = (subst (λ (x : Option Held). IsSomeAnd x (IsHeldFor o.cells c (state (c ∷ cs) None))) is
-      (holds_some (since_take (state (c ∷ cs) None) c) (IsHeldFor o.cells c (state (c ∷ cs) None)) v.held late fits.held)).page
+  page_held : (c : PageNo × Call) (p : PageHeld) → IsSomeAnd v.held (IsHeldAs o.cells c p) → (h : Held) → v.held ≡ Some h → h.page ≡ c.0
+  page_held c p some h is = (subst (λ (x : Option Held). IsSomeAnd x (IsHeldAs o.cells c p)) is some).page
 
-  kind_from : (left : List (PageNo × Call)) (back : Option FrameNo) (step : MoveStep) → Fits s o script v (state left back) → owner_ended (state left back) ≡ false → next_action (state left back) ≡ actions.Move step → MoveKind v (state left back) step
-  kind_from left (Some back) step fits going is = absurd (cc)
-  kind_from [] None step fits going is = absurd (cc)
-  kind_from ((p, Alloc kind) ∷ cs) None step fits going is =
-      let way = fits.under_way.call in
-      let r = alloc_moves cells p lease found loads made step kind way.0 is in
-      let at = r.at in
-      maps_it p kind r.frame r.move_is (page_held (p, Alloc kind) cs fits (omega arith)) (λ st f out. out)
-  kind_from ((p, Free) ∷ cs) None step fits going is =
-      let way = fits.under_way.call in
-      let r = free_moves cells p lease found loads made step way.0 is in
-      let at = r.at in
-      unmaps_it p r.move_is (page_held (p, Free) cs fits (omega arith)) (λ st f kind out. (kind, out))
-  kind_from ((p, Read first count) ∷ cs) None step fits going is = absurd (plain_moves cells p lease found loads made step (Read first count) tt is)
-  kind_from ((p, Write first values) ∷ cs) None step fits going is = absurd (plain_moves cells p lease found loads made step (Write first values) tt is)
-  kind_from ((p, Add cell value) ∷ cs) None step fits going is = absurd (plain_moves cells p lease found loads made step (Add cell value) tt is)
-  kind_from ((p, Pin) ∷ cs) None step fits going is = absurd (plain_moves cells p lease found loads made step Pin tt is)
-  kind_from ((p, Unpin) ∷ cs) None step fits going is = absurd (plain_moves cells p lease found loads made step Unpin tt is)
+  step_kind : (c : PageNo × Call) (cs : List (PageNo × Call)) (at : CallPlace) (step : MoveStep) → Fits s o script v (state (InCall at) (c ∷ cs)) → action_at c at ≡ actions.Move step → MoveKind v (state (InCall at) (c ∷ cs)) step
+  step_kind c cs (Zero frame cell) step fits is = absurd cc
+  step_kind c cs (MarkZeros frame) step fits is = absurd cc
+  step_kind c cs (Take lease) step fits is = absurd cc
+  step_kind c cs (Draw lease found) step fits is = absurd cc
+  step_kind c cs (Load found loads) step fits is = absurd cc
+  step_kind c cs (Store found loads i) step fits is = absurd cc
+  step_kind c cs (Mark found loads) step fits is = absurd cc
+  step_kind c cs (places.Map frame kind found) step fits is = with_move (MoveKind v (state (InCall (places.Map frame kind found)) (c ∷ cs))) (Map frame kind) step is
+      (maps_it c.0 kind frame refl (page_held c _ fits.has.held)
+      (λ st f. subst (λ (call : Call). IsOutForCall st ((c.0, call) ∷ cs) None f → out_for st f ≡ Some (record { page = (c.0).0; kind = kind })) (sym fits.under_way.0) (λ out. out)))
+  step_kind c cs (places.Unmap found) step fits is = with_move (MoveKind v (state (InCall (places.Unmap found)) (c ∷ cs))) Unmap step is
+      (unmaps_it c.0 refl (page_held c _ fits.has.held)
+      (λ st f kind out. subst (λ (call : Call). IsOutForCall st ((c.0, call) ∷ cs) None f) (sym fits.under_way.0) (kind, out)))
+  step_kind c cs (Release lease found loads) step fits is = absurd cc
 
-move_kind : (s : Sizes) (o : Opening) (v : View) (script : List (PageNo × Call)) (a : OwnerState) (step : MoveStep) → Fits s o script v a → owner_ended a ≡ false → next_action a ≡ actions.Move step → MoveKind v a step
-move_kind s o v script a step fits going is = kind_from s o v script a.owner a.cells a.lease a.found a.loads a.made a.left a.back step fits going is
+  kind_at : (place : Place) (left : List (PageNo × Call)) (step : MoveStep) → Fits s o script v (state place left) → action_in place left ≡ actions.Move step → MoveKind v (state place left) step
+  kind_at (Between (Some frame)) left step fits is = absurd cc
+  kind_at (Between None) [] step fits is = absurd cc
+  kind_at (Between None) (c ∷ cs) step fits is = absurd (first_moves c.0 c.1 step is)
+  kind_at (InCall at) [] step fits is = absurd cc
+  kind_at (InCall at) (c ∷ cs) step fits is = step_kind c cs at step fits is
+
+move_kind : (s : Sizes) (o : Opening) (v : View) (script : List (PageNo × Call)) (a : OwnerState) (step : MoveStep) → Fits s o script v a → next_action a ≡ actions.Move step → MoveKind v a step
+move_kind s o v script a step fits is = kind_at s o v script a.owner a.cells a.place a.left step fits is
+
+-- a step on the mapping ends no call
+goes_in : (c : PageNo × Call) (at : CallPlace) (step : MoveStep) → action_at c at ≡ actions.Move step → ends_call (InCall at) ≡ false
+goes_in c (Zero frame cell) step is = refl
+goes_in c (MarkZeros frame) step is = refl
+goes_in c (Take lease) step is = refl
+goes_in c (Draw lease found) step is = refl
+goes_in c (Load found loads) step is = refl
+goes_in c (Store found loads i) step is = refl
+goes_in c (Mark found loads) step is = refl
+goes_in c (places.Map frame kind found) step is = refl
+goes_in c (places.Unmap found) step is = refl
+goes_in c (Release lease found loads) step is = absurd cc
+
+pub move_goes_on : (place : Place) (left : List (PageNo × Call)) (step : MoveStep) → action_in place left ≡ actions.Move step → (ends_call place ≡ false) × (frame_owed place ≡ None)
+move_goes_on (Between (Some frame)) left step is = absurd cc
+move_goes_on (Between None) left step is = (refl, refl)
+move_goes_on (InCall at) [] step is = absurd cc
+move_goes_on (InCall at) (c ∷ cs) step is = (goes_in c at step is, refl)
 
 -- ---- the entry words
 
@@ -116,21 +145,21 @@ module _ (s : Scenario) (m : Machine) (r : IsRunnable s) (p : IsKept s m) (i : �
   WordsOut step held = AreMappedOut s st (words_after_move m.snapshot.words (record v { held = held }) step)
 
   abbrev HandOut : MoveStep → Option Held → Type 0
-  HandOut step held = (f : ℕ) → IsSome (hand_frame (view_after_move OneOwner (record v { held = held }) step) f) → IsOutForCall st a.left a.back f
+  HandOut step held = (f : ℕ) → IsSome (hand_frame (view_after_move OneOwner (record v { held = held }) step) f) → IsOutForCall st a.left (frame_owed a.place) f
 
   -- what was in hand
-  was_out : (f : ℕ) → IsSome (hand_frame v f) → IsOutForCall st a.left a.back f
+  was_out : (f : ℕ) → IsSome (hand_frame v f) → IsOutForCall st a.left (frame_owed a.place) f
   was_out f some = p.frames.in_hand i a f at (subst (λ (w : View). IsSome (hand_frame w f)) (sym (get_or_from_slice_get m.snapshot.views (suc i) v spent has)) some)
 
   -- ---- map
 
   module _ (page : PageNo) (kind : Kind) (frame : FrameNo) (held_is : (h : Held) → v.held ≡ Some h → h.page ≡ page)
-      (out_as : (f : ℕ) → IsOutForCall st a.left a.back f → out_for st f ≡ Some (record { page = page.0; kind = kind })) (may : AllowedMove OneOwner (opening s) v (Map frame kind)) where
+      (out_as : (f : ℕ) → IsOutForCall st a.left (frame_owed a.place) f → out_for st f ≡ Some (record { page = page.0; kind = kind })) (may : AllowedMove OneOwner (opening s) v (Map frame kind)) where
     words_map : WordsOut (Map frame kind) v.held
     words_map =
         let q = for_some v.held (λ h. InHand v frame.0 (λ x. MayMap OneOwner (opening s) h x kind)) may.1 in
         let h = q.0 in
-        let x = for_some_frame (hand_frame v frame.0) (λ x. MayMap OneOwner (opening s) h x kind) (q.2).1 in
+        let x = for_some_in (hand_frame v frame.0) (λ x. MayMap OneOwner (opening s) h x kind) (q.2).1 in
         let few : frame.0 < 1048576 = let a = in_range (opening s) v frame.0 x.0 may.0 x.1 in let b = r.limits.frames in omega arith in
         let out = out_as frame.0 (was_out frame.0 (ap (λ (y : Option HandFrame). is_some y) x.1)) in
         subst (WordsOut (Map frame kind)) (sym q.1)
@@ -148,7 +177,7 @@ module _ (s : Scenario) (m : Machine) (r : IsRunnable s) (p : IsKept s m) (i : �
   -- ---- unmap
 
   module _ (page : PageNo) (held_is : (h : Held) → v.held ≡ Some h → h.page ≡ page)
-      (to_out : (f : ℕ) (kind : Kind) → out_for st f ≡ Some (record { page = page.0; kind = kind }) → IsOutForCall st a.left a.back f) (may : AllowedMove OneOwner (opening s) v Unmap) where
+      (to_out : (f : ℕ) (kind : Kind) → out_for st f ≡ Some (record { page = page.0; kind = kind }) → IsOutForCall st a.left (frame_owed a.place) f) (may : AllowedMove OneOwner (opening s) v Unmap) where
     words_unmap : WordsOut Unmap v.held
     words_unmap =
         let q = for_some v.held MayUnmap may.1 in
@@ -188,11 +217,12 @@ module _ (s : Scenario) (m : Machine) (r : IsRunnable s) (p : IsKept s m) (i : �
     owners = set m.owners n (owner_after a Nothing);
   })
   move_placed step is n place =
-      let kind = move_kind s.geometry (opening s) v script a step fits going is in
+      let kind = move_kind s.geometry (opening s) v script a step fits is in
       let may = next_move_allowed s.geometry (opening s) v script a step fits going is in
       let views : List View = set m.snapshot.views (suc i) (view_after_move OneOwner v step) in
+      let goes = move_goes_on a.place a.left step is in
       placed_again s m p.frames i (within m.owners i a at) (owner_after a Nothing) n place (words_after_move m.snapshot.words v step) views
       (λ seat ne. get_or-set_other m.snapshot.views (suc i) seat (view_after_move OneOwner v step) spent ne)
       (words_move step kind may)
-      (λ f some. subst (λ (b : OwnerState). IsOutForCall st b.left b.back f) (sym (after_is a Nothing (actions.Move step) going is))
+      (λ f some. out_goes_on st a Nothing f goes.0 goes.1
       (hand_move step kind may f (subst (λ (w : View). IsSome (hand_frame w f)) (get_or-set_same m.snapshot.views (suc i) (view_after_move OneOwner v step) spent (within m.snapshot.views (suc i) v has)) some)))

@@ -23,16 +23,17 @@ use Rattle.core_state.specs.Views.{Has, view_of, spent, hand_frame, times_in_han
 use Rattle.core_state.specs.HandOvers.{IsAtRest, hand_without, hand_with, views_after_hand_over}
 use Rattle.core_state.proofs.Frames.{frame_once, maps_le, maps_to-one}
 use Rattle.core_state.proofs.Lists.{within, member_le_sum_by, two_members_le_sum_by}
-use Rattle.core_moves.proofs.Moves.{for_some_frame, in_range}
+use Rattle.core_state.proofs.RoomMoves.{for_some_in}
+use Rattle.core_moves.proofs.Moves.{in_range}
 use Rattle.core_actors.specs.declared.action.Action.TheVariants as actions
 use Rattle.core_actors.specs.declared.action.Heard.TheVariants.{Nothing}
-use Rattle.core_actors.specs.declared.action.LeaseSeen.{LeaseSeen}
 use Rattle.core_actors.specs.declared.action.SpaceCall.TheVariants.{Return}
-use Rattle.core_actors.specs.Fits.{hand_from, IsHandFor, HasInHand, Fits}
+use Rattle.core_actors.specs.declared.place.Place.{Place}
+use Rattle.core_actors.specs.Fits.{has_at, IsZeroed, HasInHand, Fits}
+use Rattle.core_actors.specs.Places.{frame_owed}
 use Rattle.core_actors.specs.Owners.{OwnerState, owner_ended, next_action, owner_after}
-use Rattle.core_actors.proofs.ActionKinds.{kind_at}
-use Rattle.core_actors.proofs.AtRest.{return_allowed}
-use Rattle.core_actors.proofs.FitActions.{no_return}
+use Rattle.core_actors.proofs.Allowed.{return_allowed}
+use Rattle.core_actors.proofs.Asks.{returns_at}
 use Rattle.core_actors.proofs.HandSteps.{hand_without_one, hand_with_one}
 use Rattle.space.proofs.Journals.{space_after-append}
 use Rattle.space.proofs.SpaceLaws.{possible_goes_on}
@@ -44,21 +45,6 @@ use Rattle.replay.specs.FramesOut.{HasFrame, space_now, AreFramesPlaced}
 use Rattle.replay.proofs.FramesAfter.{IsMoved, placed_later}
 use Rattle.replay.proofs.OutForCalls.{not_none, is_out}
 use Rattle.replay.proofs.SpaceNow.{space_is}
-
--- ---- which frame it is
-
-module _ (s : Sizes) (o : Opening) (v : View) (script : List (PageNo × Call)) (owner cells : ℕ) (lease : LeaseSeen) (found : ℕ) (loads : List ℕ) (made : ℕ) (frame : FrameNo) where
-  abbrev state : List (PageNo × Call) → Option FrameNo → OwnerState
-  state left back = record { owner = owner; cells = cells; left = left; lease = lease; found = found; loads = loads; made = made; back = back }
-
-  back_from : (left : List (PageNo × Call)) (back : Option FrameNo) → Fits s o script v (state left back) → next_action (state left back) ≡ actions.Space (Return frame) → back ≡ Some frame
-  back_from left (Some g) fits is = let same : g ≡ frame = cc in ap (λ (f : FrameNo). Some f) same
-  back_from [] None fits is = absurd (cc)
-  back_from (c ∷ cs) None fits is = absurd (no_return cells c lease found loads made frame is (kind_at cells c lease found loads s (fits.calls.0).call made fits.under_way.call.0))
-
--- it is the one that was to be given back
-back_is : (s : Sizes) (o : Opening) (v : View) (script : List (PageNo × Call)) (a : OwnerState) (frame : FrameNo) → Fits s o script v a → next_action a ≡ actions.Space (Return frame) → a.back ≡ Some frame
-back_is s o v script a frame fits is = back_from s o v script a.owner a.cells a.lease a.found a.loads a.made frame a.left a.back fits is
 
 -- ---- the return
 
@@ -74,7 +60,7 @@ module _ (s : Scenario) (m : Machine) (r : IsRunnable s) (p : IsKept s m) (i : �
   fits = (p.seats.fits i a v at has).1
 
   may : IsAtRest (opening s) v × IsSome (hand_frame v frame.0)
-  may = return_allowed s.geometry (opening s) v script a frame fits going is
+  may = return_allowed s.geometry (opening s) v script a fits frame is
 
   below : i < length m.owners
   below = within m.owners i a at
@@ -86,15 +72,18 @@ module _ (s : Scenario) (m : Machine) (r : IsRunnable s) (p : IsKept s m) (i : �
   is_space = space_is s m r p.frames
 
   was_out : out_for st frame.0 ≢ None
-  was_out = is_out st frame.0 a.left a.back (p.frames.in_hand i a frame.0 at (subst (λ (w : View). IsSome (hand_frame w frame.0)) (sym (get_or_from_slice_get m.snapshot.views (suc i) v spent has)) may.1))
+  was_out = is_out st frame.0 a.left (frame_owed a.place) (p.frames.in_hand i a frame.0 at (subst (λ (w : View). IsSome (hand_frame w frame.0)) (sym (get_or_from_slice_get m.snapshot.views (suc i) v spent has)) may.1))
+
+  -- it is the one that was to be given back
+  in_hand : HasInHand v (Some frame) (IsZeroed (opening s).cells 0)
+  in_hand = subst (λ (q : Place). HasInHand v ((has_at a.cells q a.left).frame) (IsZeroed (opening s).cells ((has_at a.cells q a.left).zeros))) (returns_at a.place a.left frame is) fits.has.hand
 
   low : frame.0 < frame_count s.geometry
-  low = let q = for_some_frame (hand_frame v frame.0) (IsHandFor a.left a) (subst (λ (x : Option FrameNo). HasInHand v (hand_from x a) (IsHandFor a.left a)) (back_is s.geometry (opening s) v script a frame fits is) fits.hand).1 in
-      in_range (opening s) v frame.0 q.0 fits.seated q.1
+  low = let q = for_some_in (hand_frame v frame.0) (IsZeroed (opening s).cells 0) in_hand.1 in in_range (opening s) v frame.0 q.0 fits.belongs.seated q.1
 
   -- no other frame is in the owner's hand
   alone : (f : ℕ) → f ≢ frame.0 → hand_frame v f ≡ None
-  alone = (subst (λ (x : Option FrameNo). HasInHand v (hand_from x a) (IsHandFor a.left a)) (back_is s.geometry (opening s) v script a frame fits is) fits.hand).0
+  alone = in_hand.0
 
   -- it lies in no offline block
   plugged : (b : Bool) → is_frame_in s.geometry st.offline frame.0 ≡ b → is_frame_in s.geometry st.offline frame.0 ≡ false
@@ -181,10 +170,10 @@ module _ (s : Scenario) (m : Machine) (r : IsRunnable s) (p : IsKept s m) (i : �
   mine_then = get_or-set_other (set m.snapshot.views (suc i) given) free (suc i) got spent (λ q. let lt = below in absurd (omega arith)) ∙ get_or-set_same m.snapshot.views (suc i) given spent (within m.snapshot.views (suc i) v has)
 
   given_hand : hand_without v.hand frame.0 1 ≡ set v.hand frame.0 None
-  given_hand = hand_without_one v.hand frame.0 (let lt = low in let long = fits.seated.hand in omega arith)
+  given_hand = hand_without_one v.hand frame.0 (let lt = low in let long = fits.belongs.seated.hand in omega arith)
 
   got_hand : hand_with receiver.hand v.hand frame.0 1 ≡ set receiver.hand frame.0 (hand_frame v frame.0)
-  got_hand = hand_with_one v.hand receiver.hand frame.0 (let lt = low in let long = fits.seated.hand in omega arith) (let lt = low in let long = free_long in omega arith)
+  got_hand = hand_with_one v.hand receiver.hand frame.0 (let lt = low in let long = fits.belongs.seated.hand in omega arith) (let lt = low in let long = free_long in omega arith)
 
   free_frame : (f : ℕ) → hand_frame (view_of views free) f ≡ get_or (set receiver.hand frame.0 (hand_frame v frame.0)) f None
   free_frame f = ap (λ (w : View). hand_frame w f) free_then ∙ ap (λ (h : List (Option HandFrame)). get_or h f None) got_hand
@@ -198,7 +187,7 @@ module _ (s : Scenario) (m : Machine) (r : IsRunnable s) (p : IsKept s m) (i : �
   -- the owner's hand is empty
   empty_then : (f : ℕ) → hand_frame (view_of views (suc i)) f ≡ None
   empty_then f = dite (ℕ_discrete f frame.0)
-      (λ e. ap (λ (g : ℕ). hand_frame (view_of views (suc i)) g) e ∙ (my_frame frame.0 ∙ get_or-set_same v.hand frame.0 None None (let lt = low in let long = fits.seated.hand in omega arith)))
+      (λ e. ap (λ (g : ℕ). hand_frame (view_of views (suc i)) g) e ∙ (my_frame frame.0 ∙ get_or-set_same v.hand frame.0 None None (let lt = low in let long = fits.belongs.seated.hand in omega arith)))
       (λ ne. my_frame f ∙ (get_or-set_other v.hand frame.0 f None None ne ∙ alone f ne))
 
   -- ---- the frames then

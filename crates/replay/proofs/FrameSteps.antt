@@ -37,18 +37,25 @@ use Rattle.core_actors.specs.declared.action.Action.{Action}
 use Rattle.core_actors.specs.declared.action.Action.TheVariants as actions
 use Rattle.core_actors.specs.declared.action.Heard.{Heard}
 use Rattle.core_actors.specs.Actions.{heard_by, IsStorable}
-use Rattle.core_actors.specs.Fits.{hand_of_call, frame_in_hand, IsHandFor, HasInHand, Fits}
-use Rattle.core_actors.specs.Owners.{OwnerState, before_call, back_of, owner_ended, next_action, one_made, call_ended, word_in, after_step, after_action, owner_after}
-use Rattle.core_actors.proofs.AllowedSteps.{next_step_allowed}
-use Rattle.core_actors.proofs.CallStates.{kept_before}
-use Rattle.core_actors.proofs.FitActions.{fits_after_step}
-use Rattle.core_actors.proofs.StaysUnderWay.{way_after_step}
+use Rattle.core_actors.specs.declared.place.Place.{Place}
+use Rattle.core_actors.specs.declared.place.Place.TheVariants.{Between, InCall}
+use Rattle.core_actors.specs.declared.place.CallPlace.{CallPlace}
+use Rattle.core_actors.specs.declared.place.CallPlace.TheVariants.{Zero, MarkZeros, Map, Unmap}
+use Rattle.core_actors.specs.declared.place.CallPlace.TheVariants as places
+use Rattle.core_actors.specs.CallSteps.{frame_back}
+use Rattle.core_actors.specs.Places.{calls_behind, place_behind, ends_call, frame_owed}
+use Rattle.core_actors.specs.Fits.{just_frame, has_at, seat_has, IsSeatWith, Fits}
+use Rattle.core_actors.specs.Owners.{OwnerState, action_in, owner_ended, next_action, owner_after}
+use Rattle.core_actors.proofs.Allowed.{next_step_allowed}
+use Rattle.core_actors.proofs.FitSteps.{fits_after_step}
+use Rattle.core_actors.proofs.LeaseKept.{first_owes, place_owes}
 use Rattle.replay.specs.Keeping.{IsKept}
 use Rattle.replay.specs.Machine.{Machine}
 use Rattle.replay.specs.Runs.{opening}
 use Rattle.replay.specs.FramesOut.{HasFrame, space_now, IsOutForCall, AreFramesPlaced}
 use Rattle.replay.proofs.FramesAfter.{AreMappedOut, placed_again}
 use Rattle.replay.proofs.OutForCalls.{is_out, out_to_return}
+use Rattle.replay.proofs.OwnersStay.{goes_on}
 
 -- ---- the entry words
 
@@ -133,35 +140,52 @@ hand_before k v (Release (Some d)) found f some = some
 
 -- ---- the call
 
--- before the next call there is no frame in hand but one to give back
-none_waits : (owner cells : ℕ) (left : List (PageNo × Call)) → frame_in_hand (before_call owner cells left None) ≡ None
-none_waits owner cells [] = refl
-none_waits owner cells (c ∷ cs) = ap (λ (ch : Change). hand_of_call (before_call owner cells (c ∷ cs) None) c ch) (kept_before (before_call owner cells (c ∷ cs) None) c (omega arith))
+module _ (st : SpaceState) (w : View) (frame size : ℕ) (some : IsSome (hand_frame w frame)) where
+  -- behind the release there is no frame in hand but one to give back
+  out_waiting : (left : List (PageNo × Call)) (back : Option FrameNo) → IsSeatWith size left (just_frame back) w → out_for st frame ≢ None → IsOutForCall st left back frame
+  out_waiting left (Some f) has out = out_to_return st frame left f out
+  out_waiting left None has out = absurd (let none = has.hand frame in cc)
 
-module _ (st : SpaceState) (w : View) (frame : ℕ) (some : IsSome (hand_frame w frame)) where
-  out_waiting : (owner cells : ℕ) (left : List (PageNo × Call)) (back : Option FrameNo) (P : HandFrame → Type 0) → HasInHand w (frame_in_hand (before_call owner cells left back)) P → out_for st frame ≢ None → IsOutForCall st left back frame
-  out_waiting owner cells left (Some f) P h out = out_to_return st frame left f out
-  out_waiting owner cells left None P h out = absurd (
-      let empty : HasInHand w None P = subst (λ (x : Option FrameNo). HasInHand w x P) (none_waits owner cells left) h in
-      let none = empty frame in cc)
+  out_in : (cells : ℕ) (c : PageNo × Call) (cs : List (PageNo × Call)) (at : CallPlace) (heard : Heard) → IsSeatWith size (calls_behind c cs at) (has_at cells (place_behind cells c.1 at heard) (calls_behind c cs at)) w → IsOutForCall st (c ∷ cs) None frame
+      → IsOutForCall st (calls_behind c cs at) (frame_owed (place_behind cells c.1 at heard)) frame
+  out_in cells c cs (Zero f cell) heard has out = out
+  out_in cells c cs (MarkZeros f) heard has out = out
+  out_in cells c cs (places.Take lease) heard has out = subst (λ (b : Option FrameNo). IsOutForCall st (c ∷ cs) b frame) (sym (place_owes cells c.1 (places.Take lease) heard refl)) out
+  out_in cells c cs (places.Draw lease found) heard has out = out
+  out_in cells c cs (places.Load found loads) heard has out = out
+  out_in cells c cs (places.Store found loads i) heard has out = out
+  out_in cells c cs (places.Mark found loads) heard has out = out
+  out_in cells c cs (Map f kind found) heard has out = out
+  out_in cells c cs (Unmap found) heard has out = out
+  out_in cells c cs (places.Release lease found loads) heard has out = out_waiting cs (frame_back c.1 lease found) has (is_out st frame (c ∷ cs) None out)
 
-  -- a frame in the owner's hand is out as its call wants it after the step
-  out_after : (a : OwnerState) (x : ℕ) (step : Step) (P : HandFrame → Type 0) → HasInHand w (frame_in_hand (after_step a x step)) P → IsOutForCall st a.left a.back frame
-      → IsOutForCall st (after_step a x step).left (after_step a x step).back frame
-  out_after a x (Take page) P h out = by_bit (eqb (taken_bit x) 0) where
-    by_bit : (b : Bool) → (let c : OwnerState = if b then one_made (record a { found = x }) else a in IsOutForCall st c.left c.back frame)
-    by_bit true = out
-    by_bit false = out
-  out_after a x Draw P h out = out
-  out_after a x (Load cell) P h out = out
-  out_after a x (Store f cell value) P h out = out
-  out_after a x (Mark f) P h out = out
-  out_after a x (Release end) P h out = out_waiting a.owner a.cells (call_ended a).left (back_of a.left a) P h (is_out st frame a.left a.back out)
+  out_at : (owner cells : ℕ) (place : Place) (left : List (PageNo × Call)) (heard : Heard) → frame_owed place ≡ None
+      → (let b : OwnerState = owner_after (record { owner = owner; cells = cells; left = left; place = place }) heard in IsSeatWith size b.left (seat_has b) w → IsOutForCall st left None frame → IsOutForCall st b.left (frame_owed b.place) frame)
+  out_at owner cells (Between (Some f)) left heard none has out = absurd cc
+  out_at owner cells (Between None) [] heard none has out = out
+  out_at owner cells (Between None) (c ∷ cs) heard none has out = subst (λ (b : Option FrameNo). IsOutForCall st (c ∷ cs) b frame) (sym (first_owes cells c.1 heard)) out
+  out_at owner cells (InCall at) [] heard none has out = out
+  out_at owner cells (InCall at) (c ∷ cs) heard none has out = out_in cells c cs at heard has out
+
+  -- a frame in the owner's hand is out as its call wants it after an action that gives none back
+  out_after : (a : OwnerState) (heard : Heard) → frame_owed a.place ≡ None → IsSeatWith size (owner_after a heard).left (seat_has (owner_after a heard)) w → IsOutForCall st a.left None frame
+      → IsOutForCall st (owner_after a heard).left (frame_owed (owner_after a heard).place) frame
+  out_after a heard none has out = out_at a.owner a.cells a.place a.left heard none has out
+
+-- an action that ends no call, and gives no frame back
+pub out_goes_on : (st : SpaceState) (a : OwnerState) (heard : Heard) (frame : ℕ) → ends_call a.place ≡ false → frame_owed a.place ≡ None → IsOutForCall st a.left (frame_owed a.place) frame
+    → IsOutForCall st (owner_after a heard).left (frame_owed (owner_after a heard).place) frame
+out_goes_on st a heard frame going none out =
+    let g = goes_on a heard going none in
+    subst (λ (l : List (PageNo × Call)). IsOutForCall st l (frame_owed (owner_after a heard).place) frame) (sym g.left)
+    (subst (λ (b : Option FrameNo). IsOutForCall st a.left b frame) (none ∙ sym g.owes) out)
+
+owes_none : (place : Place) (left : List (PageNo × Call)) (step : Step) → action_in place left ≡ actions.Step step → frame_owed place ≡ None
+owes_none (Between (Some f)) left step is = absurd cc
+owes_none (Between None) left step is = refl
+owes_none (InCall at) left step is = refl
 
 -- ---- the step
-
-pub after_is : (a : OwnerState) (heard : Heard) (x : Action) → owner_ended a ≡ false → next_action a ≡ x → owner_after a heard ≡ after_action a heard x
-after_is a heard x going is = ap (λ (b : Bool). if b then a else after_action a heard (next_action a)) going ∙ ap (λ (y : Action). after_action a heard y) is
 
 module _ (s : Scenario) (m : Machine) (p : IsKept s m) (i : ℕ) (a : OwnerState) (v : View) (at : slice_get m.owners i ≡ Some a) (has : Has m.snapshot.views (suc i) v) (going : owner_ended a ≡ false) (step : Step) (is : next_action a ≡ actions.Step step) where
   abbrev word : ℕ
@@ -177,7 +201,7 @@ module _ (s : Scenario) (m : Machine) (p : IsKept s m) (i : ℕ) (a : OwnerState
   fits = (p.seats.fits i a v at has).1
 
   fits_then : Fits s.geometry (opening s) (script_of s.owners (suc i)) (view_after OneOwner v step word) (owner_after a heard)
-  fits_then = fits_after_step OneOwner s.geometry (opening s) v (script_of s.owners (suc i)) a step word fits going is (way_after_step s.geometry a fits.calls fits.under_way going step word is)
+  fits_then = fits_after_step s.geometry (opening s) v (script_of s.owners (suc i)) a fits OneOwner step word is
 
   may_release : (end : Option CallDone) → step ≡ Release end → MayRelease (opening s) v end
   may_release end e = subst (λ (t : Step). Allowed (opening s) v t) e
@@ -188,15 +212,14 @@ module _ (s : Scenario) (m : Machine) (p : IsKept s m) (i : ℕ) (a : OwnerState
       let k = maps_step (opening s) m.snapshot.words p.seats.sound.shaped m.snapshot.views (suc i) v has p.seats.sound.turn step may_release page low in
       ap (λ (f : ℕ). out_for (space_now s m) f) k.frame ∙ (p.frames.mapped page low (sym k.mapped ∙ on) ∙ ap (λ (d : Kind). Some (record { page = page; kind = d })) (sym k.kind))
 
-  in_hand_then : (frame : ℕ) → IsSome (hand_frame (view_of views (suc i)) frame) → IsOutForCall (space_now s m) (owner_after a heard).left (owner_after a heard).back frame
+  in_hand_then : (frame : ℕ) → IsSome (hand_frame (view_of views (suc i)) frame) → IsOutForCall (space_now s m) (owner_after a heard).left (frame_owed (owner_after a heard).place) frame
   in_hand_then frame some =
       let now : view_of views (suc i) ≡ view_after OneOwner v step word = get_or-set_same m.snapshot.views (suc i) (view_after OneOwner v step word) spent (within m.snapshot.views (suc i) v has) in
       let had : IsSome (hand_frame (view_after OneOwner v step word) frame) = subst (λ (w : View). IsSome (hand_frame w frame)) now some in
       let was : HasFrame m (suc i) frame = subst (λ (w : View). IsSome (hand_frame w frame)) (sym (get_or_from_slice_get m.snapshot.views (suc i) v spent has)) (hand_before OneOwner v step word frame had) in
-      let e = after_is a heard (actions.Step step) going is in
-      subst (λ (b : OwnerState). HasInHand (view_after OneOwner v step word) (frame_in_hand b) (IsHandFor b.left b) → IsOutForCall (space_now s m) b.left b.back frame) (sym e)
-      (λ h. out_after (space_now s m) (view_after OneOwner v step word) frame had a (word_in heard) step (IsHandFor (after_step a (word_in heard) step).left (after_step a (word_in heard) step)) h (p.frames.in_hand i a frame at was))
-      fits_then.hand
+      let none = owes_none a.place a.left step is in
+      out_after (space_now s m) (view_after OneOwner v step word) frame (opening s).cells had a heard none fits_then.has
+      (subst (λ (b : Option FrameNo). IsOutForCall (space_now s m) a.left b frame) none (p.frames.in_hand i a frame at was))
 
   -- `n` is the place of the owner
   pub step_placed : (n : ℕ) → n ≡ i → AreFramesPlaced s (record m {

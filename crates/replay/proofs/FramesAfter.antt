@@ -17,6 +17,7 @@ use Rattle.core_state.specs.Words.{entry_word_of, kind_in}
 use Rattle.core_state.specs.Views.{view_of, hand_frame}
 use Rattle.core_state.proofs.Lists.{at_set, within}
 use Rattle.core_actors.specs.Owners.{OwnerState}
+use Rattle.core_actors.specs.Places.{frame_owed}
 use Rattle.replay.specs.Machine.{Machine, free_seat, unplugged_seat}
 use Rattle.replay.specs.FramesOut.{HasFrame, space_now, unplugged_now, IsOutForCall, AreFramesPlaced}
 use Rattle.replay.proofs.OutForCalls.{out_still}
@@ -56,7 +57,7 @@ module _ (s : Scenario) (m : Machine) (p : AreFramesPlaced s m) (i : ℕ) (below
     again_at : (f : ℕ → ℕ) → f (length m.owners) ≢ suc i → view_of views (f (length owners)) ≡ view_of m.snapshot.views (f (length m.owners))
     again_at f ne = ap (λ (l : ℕ). view_of views (f l)) as_many ∙ others (f (length m.owners)) ne
 
-    pub placed_again : AreMappedOut s (space_now s m) words → ((frame : ℕ) → HasFrame again (suc i) frame → IsOutForCall (space_now s m) a.left a.back frame) → AreFramesPlaced s again
+    pub placed_again : AreMappedOut s (space_now s m) words → ((frame : ℕ) → HasFrame again (suc i) frame → IsOutForCall (space_now s m) a.left (frame_owed a.place) frame) → AreFramesPlaced s again
     placed_again mapped in_hand = record {
       possible = p.possible;
       free = λ frame low. subst (λ (v : View). IsSome (hand_frame v frame) ↔ IsFreeIn s (space_now s m) frame) (sym (again_at free_seat (λ e. omega arith))) (p.free frame low);
@@ -66,7 +67,7 @@ module _ (s : Scenario) (m : Machine) (p : AreFramesPlaced s m) (i : ℕ) (below
       scanner = λ frame. ap (λ (v : View). hand_frame v frame) (again_at (λ (l : ℕ). l + 1) (λ e. omega arith)) ∙ p.scanner frame;
       mapped = mapped;
       in_hand = λ j b frame at has. ⊎_elim
-          (λ q. subst (λ (c : OwnerState). IsOutForCall (space_now s m) c.left c.back frame) q.1 (in_hand frame (subst (λ (k : ℕ). HasFrame again (suc k) frame) q.0 has)))
+          (λ q. subst (λ (c : OwnerState). IsOutForCall (space_now s m) c.left (frame_owed c.place) frame) q.1 (in_hand frame (subst (λ (k : ℕ). HasFrame again (suc k) frame) q.0 has)))
           (λ q. p.in_hand j b frame q.1 (subst (λ (v : View). IsSome (hand_frame v frame)) (others (suc j) (λ e. q.0 (omega arith))) has))
           (which j b at);
     }
@@ -100,7 +101,7 @@ module _ (s : Scenario) (m : Machine) (p : AreFramesPlaced s m) (i : ℕ) (below
           (subst (λ (o : Option Out). HasFrame m free frame ↔ ((o ≡ None) × (is_frame_in s.geometry (space_now s later).offline frame ≡ false))) (sym (h.out frame ne))
           (subst (λ (l : List ℕ). HasFrame m free frame ↔ ((out_for (space_now s m) frame ≡ None) × (is_frame_in s.geometry l frame ≡ false))) (sym h.offline) (p.free frame low)))
 
-      pub placed_later : FreeAs (space_now s later) (view_of views free) f → ((frame : ℕ) → HasFrame later (suc i) frame → IsOutForCall (space_now s later) a.left a.back frame) → AreFramesPlaced s later
+      pub placed_later : FreeAs (space_now s later) (view_of views free) f → ((frame : ℕ) → HasFrame later (suc i) frame → IsOutForCall (space_now s later) a.left (frame_owed a.place) frame) → AreFramesPlaced s later
       placed_later here in_hand = record {
         possible = h.possible;
         free = λ frame low. subst (λ (k : ℕ). FreeAs (space_now s later) (view_of views (free_seat k)) frame) (sym as_many)
@@ -111,10 +112,10 @@ module _ (s : Scenario) (m : Machine) (p : AreFramesPlaced s m) (i : ℕ) (below
         scanner = λ frame. ap (λ (v : View). hand_frame v frame) (later_at (λ (l : ℕ). l + 1) (λ e. omega arith) (λ e. omega arith)) ∙ p.scanner frame;
         mapped = λ page low on. h.out (frame_of (entry_word_of m.snapshot.words page)) (h.unmapped page low on) ∙ p.mapped page low on;
         in_hand = λ j b frame at has. ⊎_elim
-            (λ q. subst (λ (c : OwnerState). IsOutForCall (space_now s later) c.left c.back frame) q.1 (in_hand frame (subst (λ (k : ℕ). HasFrame later (suc k) frame) q.0 has)))
+            (λ q. subst (λ (c : OwnerState). IsOutForCall (space_now s later) c.left (frame_owed c.place) frame) q.1 (in_hand frame (subst (λ (k : ℕ). HasFrame later (suc k) frame) q.0 has)))
             (λ q.
             let had : HasFrame m (suc j) frame = subst (λ (v : View). IsSome (hand_frame v frame)) (others (suc j) (λ e. q.0 (omega arith)) (λ e. let lt = within m.owners j b q.1 in omega arith)) has in
-            out_still (space_now s m) frame (space_now s later) b.left b.back
+            out_still (space_now s m) frame (space_now s later) b.left (frame_owed b.place)
             (h.out frame (λ e. h.in_no_hand j b q.0 q.1 (subst (λ (g : ℕ). HasFrame m (suc j) g) e had))) (p.in_hand j b frame q.1 had))
             (which j b at);
       }

@@ -16,12 +16,13 @@ use Rattle.evac_model.proofs.Ranges.{between_inside, between_above}
 use Rattle.core_state.specs.declared.opening.Opening.{Opening}
 use Rattle.core_state.specs.declared.snapshot.Snapshot.{Snapshot}
 use Rattle.core_actors.proofs.HostCounts.{plugged_in_within}
-use Rattle.dma_listeners.specs.BlockLists.{united, without_blocks}
-use Rattle.dma_listeners.specs.Calls.{Calls}
-use Rattle.dma_listeners.specs.Count.{Rose}
+use Rattle.evac_model.specs.Numbers.{united, without_range}
+use Rattle.evac_model.specs.Counts.{Calls}
+use Rattle.evac_model.specs.Counts.{Rose}
 use Rattle.mem_device.specs.HandState.{HandState}
 use Rattle.mem_device.specs.Answering.{IsAnswer, IsBack}
-use Rattle.mem_device.proofs.Blocks.{is_in-range, united_below, range_past, numbers-range}
+use Rattle.evac_model.proofs.Members.{is_in-range_with_len}
+use Rattle.evac_model.proofs.Unions.{united_below, range_past, numbers-range}
 use Rattle.replay.specs.HostSeats.{MayHandBlocks}
 
 -- ---- a range is taken in, and a first block is taken out
@@ -29,25 +30,25 @@ use Rattle.replay.specs.HostSeats.{MayHandBlocks}
 none_with-range : (first n : ℕ) → united [] (range_with_len first n) ≡ range_with_len first n
 none_with-range first n =
     united_below [] (range_with_len first n) (first + n) (λ b h. refl) (range_past first n (first + n) (omega arith))
-    ∙ numbers-range (λ b. is_in b (range_with_len first n)) first n (first + n) (omega arith) (λ b l. is_in-range first n b)
+    ∙ numbers-range (λ b. is_in b (range_with_len first n)) first n (first + n) (omega arith) (λ b l. is_in-range_with_len b first n)
 
 -- a hand that has no blocks takes in those of a range
-pub taken_in : (old left back now : HandState) (r : BlockRange) → old.blocks ≡ [] → left.blocks ≡ without_blocks 0 0 old.blocks → back.blocks ≡ blocks_of r → now.blocks ≡ united left.blocks back.blocks → now.blocks ≡ blocks_of r
+pub taken_in : (old left back now : HandState) (r : BlockRange) → old.blocks ≡ [] → left.blocks ≡ without_range 0 0 old.blocks → back.blocks ≡ blocks_of r → now.blocks ≡ united left.blocks back.blocks → now.blocks ≡ blocks_of r
 taken_in old left back now r none keeps gives takes =
-    let empty : left.blocks ≡ [] = keeps ∙ ap (λ (l : List ℕ). without_blocks 0 0 l) none in
+    let empty : left.blocks ≡ [] = keeps ∙ ap (λ (l : List ℕ). without_range 0 0 l) none in
     takes ∙ rw (empty, gives) (none_with-range r.first r.count)
 
-above_kept : (b a n : ℕ) → b + 1 ≤ a → without_blocks b 1 (range_with_len a n) ≡ range_with_len a n
+above_kept : (b a n : ℕ) → b + 1 ≤ a → without_range b 1 (range_with_len a n) ≡ range_with_len a n
 above_kept b a zero h = refl
 above_kept b a (suc n) h =
     let here : is_between b (b + 1) a ≡ false = between_above b (b + 1) a h in
-    let rest : without_blocks b 1 (range_with_len (a + 1) n) ≡ range_with_len (a + 1) n = above_kept b (a + 1) n (omega arith) in
+    let rest : without_range b 1 (range_with_len (a + 1) n) ≡ range_with_len (a + 1) n = above_kept b (a + 1) n (omega arith) in
     rw (here, rest) refl
 
-pub without_first : (b n : ℕ) → without_blocks b 1 (range_with_len b (suc n)) ≡ range_with_len (suc b) n
+pub without_first : (b n : ℕ) → without_range b 1 (range_with_len b (suc n)) ≡ range_with_len (suc b) n
 without_first b n =
     let here : is_between b (b + 1) b ≡ true = between_inside b (b + 1) b (omega arith) (omega arith) in
-    let rest : without_blocks b 1 (range_with_len (b + 1) n) ≡ range_with_len (b + 1) n = above_kept b (b + 1) n (omega arith) in
+    let rest : without_range b 1 (range_with_len (b + 1) n) ≡ range_with_len (b + 1) n = above_kept b (b + 1) n (omega arith) in
     let next : b + 1 ≡ suc b = omega arith in
     rw (here, rest) (ap (λ (k : ℕ). range_with_len k n) next)
 

@@ -21,7 +21,7 @@ use Rattle.core_actors.specs.declared.action.DeviceHeard.TheVariants as device_h
 use Rattle.core_actors.specs.declared.action.Heard.TheVariants as heard
 use Rattle.core_actors.specs.declared.action.SpaceCall.TheVariants.{Online}
 use Rattle.core_actors.specs.Hosts.{HostState, host_ended, host_action, action_for, host_after, after_heard, with_result, result_now, but_first}
-use Rattle.dma_listeners.specs.BlockLists.{without_blocks}
+use Rattle.evac_model.specs.Numbers.{without_range}
 use Rattle.mem_device.specs.HandState.{HandState}
 use Rattle.replay.specs.HostSeats.{asked_blocks}
 use Rattle.replay.specs.Machine.{HostScene, after_device_call, after_host_action, after_host_next}
@@ -97,17 +97,17 @@ module _ (sizes : Sizes) (number : ℕ) (result : Option HostResult) (online : B
 pub puts_online : (h : HostState) (block : BlockNo) → host_action h ≡ actions.Space (Online block) → PutsOnline h block
 puts_online h block is = puts_by h.sizes h.number h.result h.online block h.left (h.online.count == 0) refl is
 
-first_out : (r : BlockRange) → (r.count == 0) ≡ false → without_blocks r.first 1 (blocks_of r) ≡ blocks_of (but_first r)
+first_out : (r : BlockRange) → (r.count == 0) ≡ false → without_range r.first 1 (blocks_of r) ≡ blocks_of (but_first r)
 first_out r some =
     let more : r.count ≡ suc (r.count - 1) = let other = eqb-false r.count 0 some in omega (arith, other) in
-    ap (λ (n : ℕ). without_blocks r.first 1 (range_with_len r.first n)) more ∙ without_first r.first (r.count - 1)
+    ap (λ (n : ℕ). without_range r.first 1 (range_with_len r.first n)) more ∙ without_first r.first (r.count - 1)
 
-pub held_online : (h after : HostState) (block : BlockNo) (old now : HandState) → host_action h ≡ actions.Space (Online block) → after ≡ host_after h heard.Nothing → old.blocks ≡ blocks_of h.online → now.blocks ≡ without_blocks block.0 1 old.blocks → now.blocks ≡ blocks_of after.online
+pub held_online : (h after : HostState) (block : BlockNo) (old now : HandState) → host_action h ≡ actions.Space (Online block) → after ≡ host_after h heard.Nothing → old.blocks ≡ blocks_of h.online → now.blocks ≡ without_range block.0 1 old.blocks → now.blocks ≡ blocks_of after.online
 held_online h after block old now is heard holds taken =
     let p = puts_online h block is in
     taken
-    ∙ ap (λ (l : List ℕ). without_blocks block.0 1 l) holds
-    ∙ ap (λ (b : ℕ). without_blocks b 1 (blocks_of h.online)) (sym p.first)
+    ∙ ap (λ (l : List ℕ). without_range block.0 1 l) holds
+    ∙ ap (λ (b : ℕ). without_range b 1 (blocks_of h.online)) (sym p.first)
     ∙ first_out h.online p.some
     ∙ sym (online_with h (result_now h) (but_first h.online))
     ∙ ap (λ (k : HostState). blocks_of k.online) (sym (heard ∙ p.after))

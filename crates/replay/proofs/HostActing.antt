@@ -27,7 +27,7 @@ use Rattle.core_state.specs.Views.{Has, view_of}
 use Rattle.core_state.proofs.Rooms.{seat_has}
 use Rattle.core_actors.specs.Hosts.{action_for, device_call}
 use Rattle.space.proofs.BlockFrames.{in_block, frame_in_from}
-use Rattle.space.proofs.Members.{is_in-range_with_len}
+use Rattle.evac_model.proofs.Members.{is_in-range_with_len}
 use Rattle.replay.specs.FramesOut.{unplugged_now}
 use Rattle.replay.specs.HostKept.{device_now}
 use Rattle.replay.specs.HostSeats.{MayAskDevice, MayPutOnline, MayHostMake, MayHostAct}

@@ -19,7 +19,7 @@ use Rattle.core_actors.specs.declared.action.Heard.{Heard}
 use Rattle.core_actors.specs.declared.action.Heard.TheVariants as heard
 use Rattle.core_actors.specs.declared.action.SpaceCall.TheVariants.{Online}
 use Rattle.core_actors.specs.Hosts.{HostState, host_action, action_for, device_call, host_after, after_heard, command_ended, with_result, result_in, result_now, plugged_in, but_first}
-use Rattle.space.proofs.Members.{is_in-range_with_len}
+use Rattle.evac_model.proofs.Members.{is_in-range_with_len}
 
 -- a host that asks the device for its first command: no blocks are to be put online
 pub record IsAsking (h : HostState) (c : HostCommand) : Type 0 where

@@ -96,7 +96,7 @@ module _ (s : Scenario) (m : Machine) (r : IsRunnable s) (k : IsKept s m) where
         subst (λ (x : Snapshot). AreFramesPlaced s (answered_with x)) (sym (some_handed (plugged_by s.geometry (request_in bytes) response) some))
         (plug_placed s m k (plugged_by s.geometry (request_in bytes) response) (request_plugged s.geometry d (request_in bytes) some) (may.hands some)
         (host_after m.host told) (lines_then told) device
-        (plugged_then ∙ plugs.plugged ∙ ap (λ (x : BlockRange). with_range x.first x.count s.geometry.managed d.plugged) (sym plugs.range))
+        (plugged_then ∙ plugs.plugged ∙ ap (λ (x : BlockRange). with_range x.first x.count d.plugged) (sym plugs.range))
         before (blocks_then (plugged_by s.geometry (request_in bytes) response) refl))
 
     request_placed : AreFramesPlaced s (answered_with (handed (plugged_by s.geometry (request_in bytes) response)))

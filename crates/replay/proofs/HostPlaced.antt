@@ -16,6 +16,7 @@ use Rattle.core_state.specs.declared.view.View.{View}
 use Rattle.core_state.specs.Words.{entry_word_of}
 use Rattle.core_state.specs.Views.{view_of, hand_frame}
 use Rattle.core_state.proofs.Lists.{within}
+use Rattle.core_actors.specs.Places.{frame_owed}
 use Rattle.core_actors.specs.Hosts.{HostState}
 use Rattle.space.proofs.BlockFrames.{both_true}
 use Rattle.replay.specs.Machine.{Machine, free_seat, unplugged_seat, device_at, space_at}
@@ -70,7 +71,7 @@ module _ (s : Scenario) (m : Machine) (p : AreFramesPlaced s m) where
       mapped = λ page low on. h.out (frame_of (entry_word_of m.snapshot.words page)) ∙ p.mapped page low on;
       in_hand = λ i a frame at has.
           let lt = within m.owners i a at in
-          out_still (space_now s m) frame space_then a.left a.back (h.out frame)
+          out_still (space_now s m) frame space_then a.left (frame_owed a.place) (h.out frame)
           (p.in_hand i a frame at (subst (λ (v : View). IsSome (hand_frame v frame)) (h.others (suc i) (λ e. omega arith) (λ e. omega arith) (λ e. omega arith)) has));
     }
 

@@ -53,7 +53,7 @@ module _ (s : Scenario) (m : Machine) (kept : IsKept s m) where
           sound = hand_overs_keep_sound (opening s) m.snapshot.words m.snapshot.views from to giver receiver first n (other_has s m kept from from_there) (other_has s m kept to to_there) apart kept.seats.sound may;
           places = idle_placed s m.owners _
               (idle_placed s m.owners m.snapshot.views (in_place s m kept.seats) from left gives (idle_gives (opening s) giver giver_idle receiver first n may) (hand_in_order giver _ (kept.seats.in_order from giver (other_has s m kept from from_there))))
-              to got takes (idle_takes (opening s) receiver (other_idle s m kept to to_there takes) giver first n may giver_idle.sized) (hand_in_order receiver _ (kept.seats.in_order to receiver (other_has s m kept to to_there)));
+              to got takes (idle_takes (opening s) receiver (other_idle s m kept to to_there takes) giver first n may) (hand_in_order receiver _ (kept.seats.in_order to receiver (other_has s m kept to to_there)));
         }
 
   -- ---- what the host's actions hand over

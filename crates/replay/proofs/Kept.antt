@@ -12,6 +12,7 @@ use Rattle.evac_model.specs.Scenarios.{IsRunnable}
 use Rattle.core_actors.specs.declared.action.LeaseSeen.{LeaseSeen}
 use Rattle.core_actors.specs.declared.action.LeaseSeen.TheVariants.{NotAsked}
 use Rattle.core_actors.specs.Owners.{OwnerState, owner_at_start}
+use Rattle.core_actors.specs.Places.{lease_seen, frame_owed}
 use Rattle.replay.specs.CallsMade.{made_under_way, owed, IsRefusedNow, AreOwnersCallsMade, AreCallsMade}
 use Rattle.replay.specs.Keeping.{IsKept}
 use Rattle.replay.specs.Machine.{Machine, after_turn}
@@ -27,8 +28,8 @@ use Rattle.replay.proofs.Starts.{seats_at_start, new_at_start}
 
 -- an owner that hasn't asked for a frame, and has none to give back
 record HasAskedNothing (a : OwnerState) : Type 0 where
-  pub lease : a.lease ≡ NotAsked
-  pub back : a.back ≡ None
+  pub lease : lease_seen a.place ≡ NotAsked
+  pub back : frame_owed a.place ≡ None
 
 asked_nothing : (cells k : ℕ) (scripts : List (List (PageNo × Call))) (i : ℕ) (a : OwnerState) → slice_get (owners_from cells k scripts) i ≡ Some a → HasAskedNothing a
 asked_nothing cells k [] i a at = absurd (none-some a at)

@@ -59,4 +59,3 @@ pub mod Reported
 pub mod EndCalls
 pub mod EndHost
 pub mod EndFrames
-pub mod SmallRuns

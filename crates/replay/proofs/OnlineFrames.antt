@@ -24,7 +24,7 @@ use Rattle.core_state.proofs.Frames.{frame_once}
 use Rattle.core_state.proofs.Lists.{two_members_le_sum_by}
 use Rattle.core_actors.specs.Hosts.{HostState, but_first}
 use Rattle.space.proofs.BlockFrames.{in_block, frame_in_from, is_in-without_block}
-use Rattle.space.proofs.Members.{is_in-range_with_len}
+use Rattle.evac_model.proofs.Members.{is_in-range_with_len}
 use Rattle.space.proofs.Journals.{space_after-append}
 use Rattle.space.proofs.SpaceLaws.{possible_goes_on}
 use Rattle.space.specs.SpaceInside.{IsSpace}

@@ -24,10 +24,10 @@ use Rattle.core_state.proofs.Lists.{within}
 use Rattle.core_state.proofs.Rooms.{seat_has}
 use Rattle.core_actors.specs.declared.action.Action.TheVariants as actions
 use Rattle.core_actors.specs.declared.action.SpaceCall.TheVariants.{Return}
-use Rattle.core_actors.specs.Fits.{frame_in_hand, IsHandFor, HasInHand, Fits}
+use Rattle.core_actors.specs.Fits.{frame_in_hand, IsZeroed, HasInHand, Fits, seat_has as owner_seat_has}
+use Rattle.core_actors.specs.Places.{frame_owed}
 use Rattle.core_actors.specs.Owners.{OwnerState, owner_ended, next_action}
-use Rattle.core_actors.proofs.AtRest.{return_allowed}
-use Rattle.core_actors.proofs.HandSteps.{hand_sized}
+use Rattle.core_actors.proofs.Allowed.{return_allowed}
 use Rattle.replay.specs.FramesOut.{space_now}
 use Rattle.replay.specs.Keeping.{HaveNumbers, IsIdle, IsKept}
 use Rattle.replay.specs.Machine.{Machine, free_seat, unplugged_seat}
@@ -97,17 +97,11 @@ module _ (s : Scenario) (m : Machine) (kept : IsKept s m) where
     pub seats_apart : free_of m ≢ suc i
     seats_apart e = let lt = within m.owners i a at in absurd (omega arith)
 
-    -- each frame in the owner's hand has the cells of a page
-    pub owner_sized : (frame : ℕ) (x : HandFrame) → hand_frame (owner_view m i) frame ≡ Some x → length x.stores ≡ s.geometry.cells
-    owner_sized frame x is =
-        let fits = owner_fits.1 in
-        hand_sized a.left a x (of_each (owner_view m i) (frame_in_hand a) (IsHandFor a.left a) frame x fits.hand is) ∙ fits.owner_cells
-
     -- ---- a frame that the owner gives back
 
     module _ (going : owner_ended a ≡ false) (frame : FrameNo) (is : next_action a ≡ actions.Space (Return frame)) where
       abbrev resting : IsAtRest (opening s) (owner_view m i) × IsSome (hand_frame (owner_view m i) frame.0)
-      resting = return_allowed s.geometry (opening s) (owner_view m i) (script_of s.owners (suc i)) a frame owner_fits.1 going is
+      resting = return_allowed s.geometry (opening s) (owner_view m i) (script_of s.owners (suc i)) a owner_fits.1 frame is
 
       return_in_hand : (x : HandFrame) × (hand_frame (owner_view m i) frame.0 ≡ Some x)
       return_in_hand = some_of (hand_frame (owner_view m i) frame.0) resting.1
@@ -116,7 +110,7 @@ module _ (s : Scenario) (m : Machine) (kept : IsKept s m) where
       return_handed = one_handed (opening s) (owner_view m i) (free_view m) frame.0 return_in_hand.0 resting.0 free_idle.rests return_in_hand.1
 
       pub return_out : out_for (space_now s m) frame.0 ≢ None
-      return_out = is_out (space_now s m) frame.0 a.left a.back (kept.frames.in_hand i a frame.0 at resting.1)
+      return_out = is_out (space_now s m) frame.0 a.left (frame_owed a.place) (kept.frames.in_hand i a frame.0 at resting.1)
 
     -- ---- a frame that the owner is leased
 

@@ -1,50 +1,53 @@
 -- What stays of an owner over its actions: its number, and its calls but those that end.
-use Rattle.std.proofs.Common.{◌≡◌, ℕ, eqb, Bool, true, false, if◌then◌else◌, List, [], ◌∷◌, drop, refl}
+use Rattle.std.proofs.Common.{◌≡◌, ℕ, Bool, true, false, if◌then◌else◌, List, [], ◌∷◌, refl, sym, ap, ◌∙◌, subst, Option, None, Some}
 use Rattle.evac_model.specs.declared.names.PageNo.{PageNo}
 use Rattle.evac_model.specs.declared.call.Call.{Call}
-use Rattle.evac_words.specs.Word.{taken_bit}
-use Rattle.core_state.specs.declared.step.Step.{Step}
-use Rattle.core_state.specs.declared.step.Step.TheVariants.{Take, Draw, Load, Store, Mark, Release}
-use Rattle.core_actors.specs.declared.action.Action.{Action}
-use Rattle.core_actors.specs.declared.action.Action.TheVariants as actions
 use Rattle.core_actors.specs.declared.action.Heard.{Heard}
-use Rattle.core_actors.specs.declared.action.SpaceCall.TheVariants.{Lease, Return, Online}
-use Rattle.core_actors.specs.Owners.{OwnerState, owner_ended, next_action, one_made, word_in, after_step, after_action, owner_after}
+use Rattle.core_actors.specs.declared.place.Place.{Place}
+use Rattle.core_actors.specs.declared.place.Place.TheVariants.{Between, InCall}
+use Rattle.core_actors.specs.declared.place.CallPlace.{CallPlace}
+use Rattle.core_actors.specs.Places.{calls_behind, ends_call, frame_owed}
+use Rattle.core_actors.specs.Owners.{OwnerState, owner_after}
+use Rattle.core_actors.proofs.Kept.{calls_end}
+use Rattle.core_actors.proofs.LeaseKept.{first_owes, place_owes}
+use Rattle.core_actors.proofs.Cases.{if_then}
 use Rattle.replay.specs.Keeping.{HaveNumbers}
 
 pub record Stays (a b : OwnerState) : Type 0 where
   pub number : b.owner ≡ a.owner
   pub numbers : HaveNumbers a.left → HaveNumbers b.left
 
-stays_same : (a : OwnerState) → Stays a a
-stays_same a = record { number = refl; numbers = λ h. h }
+fewer_numbers : (c : PageNo × Call) (cs : List (PageNo × Call)) (at : CallPlace) → HaveNumbers (c ∷ cs) → HaveNumbers (calls_behind c cs at)
+fewer_numbers c cs at h = subst HaveNumbers (calls_end c cs at) (if_then HaveNumbers (ends_call (InCall at)) cs (c ∷ cs) (λ t. h.1) (λ f. h))
 
-fewer_numbers : (left : List (PageNo × Call)) → HaveNumbers left → HaveNumbers (drop 1 left)
-fewer_numbers [] h = tt
-fewer_numbers (c ∷ cs) h = h.1
-
-stays_after_step : (a : OwnerState) (word : ℕ) (step : Step) → Stays a (after_step a word step)
-stays_after_step a word (Take page) = by_bit (eqb (taken_bit word) 0) where
-  by_bit : (b : Bool) → Stays a (if b then one_made (record a { found = word }) else a)
-  by_bit true = record { number = refl; numbers = λ h. h }
-  by_bit false = stays_same a
-stays_after_step a word Draw = record { number = refl; numbers = λ h. h }
-stays_after_step a word (Load cell) = record { number = refl; numbers = λ h. h }
-stays_after_step a word (Store frame cell value) = record { number = refl; numbers = λ h. h }
-stays_after_step a word (Mark frame) = record { number = refl; numbers = λ h. h }
-stays_after_step a word (Release end) = record { number = refl; numbers = fewer_numbers a.left }
-
-stays_after_action : (a : OwnerState) (heard : Heard) (x : Action) → Stays a (after_action a heard x)
-stays_after_action a heard (actions.Step step) = stays_after_step a (word_in heard) step
-stays_after_action a heard (actions.Move step) = record { number = refl; numbers = λ h. h }
-stays_after_action a heard (actions.Space (Lease page kind)) = record { number = refl; numbers = λ h. h }
-stays_after_action a heard (actions.Space (Return frame)) = record { number = refl; numbers = λ h. h }
-stays_after_action a heard (actions.Space (Online block)) = stays_same a
-stays_after_action a heard (actions.Device call) = stays_same a
-stays_after_action a heard actions.Ended = stays_same a
+stays_at : (owner cells : ℕ) (place : Place) (left : List (PageNo × Call)) (heard : Heard)
+    → Stays (record { owner = owner; cells = cells; left = left; place = place }) (owner_after (record { owner = owner; cells = cells; left = left; place = place }) heard)
+stays_at owner cells (Between (Some frame)) left heard = record { number = refl; numbers = λ h. h }
+stays_at owner cells (Between None) [] heard = record { number = refl; numbers = λ h. h }
+stays_at owner cells (Between None) (c ∷ cs) heard = record { number = refl; numbers = λ h. h }
+stays_at owner cells (InCall at) [] heard = record { number = refl; numbers = λ h. h }
+stays_at owner cells (InCall at) (c ∷ cs) heard = record { number = refl; numbers = fewer_numbers c cs at }
 
 pub stays : (a : OwnerState) (heard : Heard) → Stays a (owner_after a heard)
-stays a heard = by_bit (owner_ended a) where
-  by_bit : (b : Bool) → Stays a (if b then a else after_action a heard (next_action a))
-  by_bit true = stays_same a
-  by_bit false = stays_after_action a heard (next_action a)
+stays a heard = stays_at a.owner a.cells a.place a.left heard
+
+-- ---- an action that ends no call
+
+-- the same calls are left then, and no frame is to be given back
+pub record GoesOn (a b : OwnerState) : Type 0 where
+  pub left : b.left ≡ a.left
+  pub owes : frame_owed b.place ≡ None
+
+goes_at : (owner cells : ℕ) (place : Place) (left : List (PageNo × Call)) (heard : Heard) → ends_call place ≡ false → frame_owed place ≡ None
+    → GoesOn (record { owner = owner; cells = cells; left = left; place = place }) (owner_after (record { owner = owner; cells = cells; left = left; place = place }) heard)
+goes_at owner cells (Between (Some frame)) left heard going none = absurd cc
+goes_at owner cells (Between None) [] heard going none = record { left = refl; owes = refl }
+goes_at owner cells (Between None) (c ∷ cs) heard going none = record { left = refl; owes = first_owes cells c.1 heard }
+goes_at owner cells (InCall at) [] heard going none = record { left = refl; owes = refl }
+goes_at owner cells (InCall at) (c ∷ cs) heard going none = record {
+  left = sym (calls_end c cs at) ∙ ap (λ (b : Bool). if b then cs else c ∷ cs) going;
+  owes = place_owes cells c.1 at heard going;
+}
+
+pub goes_on : (a : OwnerState) (heard : Heard) → ends_call a.place ≡ false → frame_owed a.place ≡ None → GoesOn a (owner_after a heard)
+goes_on a heard going none = goes_at a.owner a.cells a.place a.left heard going none

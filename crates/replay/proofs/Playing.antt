@@ -206,8 +206,8 @@ still_owners s k (n ∷ ns) others still (suc i) v at = still_owners s (k + 1) n
 
 still_others : (s : Sizes) (start : List StartPage) (i : ℕ) (v : View) → Has (scanner_view s ∷ keeper_views s start) i v → v.mover ≡ []
 still_others s start zero v at = sym (ap (λ (x : View). x.mover) (same_Some (scanner_view s) v at))
-still_others s start (suc zero) v at = sym (ap (λ (x : View). x.mover) (same_Some (keeper_view s (free_hand s start)) v at))
-still_others s start (suc (suc zero)) v at = sym (ap (λ (x : View). x.mover) (same_Some (keeper_view s (unplugged_hand s)) v at))
+still_others s start (suc zero) v at = sym (ap (λ (x : View). x.mover) (same_Some (keeper_view s (Some []) (free_hand s start)) v at))
+still_others s start (suc (suc zero)) v at = sym (ap (λ (x : View). x.mover) (same_Some (keeper_view s None (unplugged_hand s)) v at))
 still_others s start (suc (suc (suc i))) v at = absurd (none-some v at)
 
 pub quiet_start : (s : Sizes) (start : List StartPage) (budgets : List ℕ) → IsQuiet (opening_views s start budgets)

@@ -21,7 +21,7 @@ pub record PlugsNone (s : Sizes) (d : DeviceState) (request : Option Request) (r
 pub record Plugs (s : Sizes) (d : DeviceState) (request : Option Request) (response : Response) (r : BlockRange) : Type 0 where
   pub range : plugged_by s request response ≡ r
   pub some : 1 ≤ r.count
-  pub plugged : (after_answer s d request response).plugged ≡ with_range r.first r.count s.managed d.plugged
+  pub plugged : (after_answer s d request response).plugged ≡ with_range r.first r.count d.plugged
 
 abbrev pub PlugsOrNone : Sizes → DeviceState → Option Request → Response → Type 0
 PlugsOrNone s d request response = PlugsNone s d request response ⊎ ((r : BlockRange) × Plugs s d request response r)

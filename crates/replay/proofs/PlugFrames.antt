@@ -14,7 +14,8 @@ use Rattle.core_state.specs.HandOvers.{MayHandOver, views_after_hand_over}
 use Rattle.core_state.specs.declared.view.View.{View}
 use Rattle.core_state.specs.Views.{view_of, hand_frame}
 use Rattle.core_actors.specs.Hosts.{HostState}
-use Rattle.space.proofs.Members.{is_in-range_with_len}
+use Rattle.evac_model.proofs.Members.{is_in-range_with_len}
+use Rattle.evac_model.proofs.Unions.{is_in-with_range}
 use Rattle.replay.specs.FramesOut.{space_now, unplugged_now, AreFramesPlaced}
 use Rattle.replay.specs.HostKept.{device_now}
 use Rattle.replay.specs.Keeping.{IsKept}
@@ -40,14 +41,14 @@ parted false false h = refl
 
 module _ (s : Sizes) (plugged : List ℕ) (r : BlockRange) where
   abbrev then : List ℕ
-  then = with_range r.first r.count s.managed plugged
+  then = with_range r.first r.count plugged
 
   -- they are those that weren't but the blocks of the range
   pub unplugged-with_range : (b : ℕ) → is_in b (unplugged_blocks s then) ≡ (is_in b (unplugged_blocks s plugged) && not (is_in b (blocks_of r)))
   unplugged-with_range b = elim (cases_lt b s.managed) [
     | inl low ↦
         is_in-numbers_where (λ (k : ℕ). not (is_in k then)) s.managed b low
-        ∙ ap not (is_in-numbers_where (λ (k : ℕ). is_in k plugged || is_between r.first (r.first + r.count) k) s.managed b low)
+        ∙ ap not (is_in-with_range r.first r.count plugged b)
         ∙ not_or (is_in b plugged) (is_between r.first (r.first + r.count) b)
         ∙ ap (λ (t : Bool). not (is_in b plugged) && not t) (sym (is_in-range_with_len b r.first r.count))
         ∙ ap (λ (t : Bool). t && not (is_in b (blocks_of r))) (sym (is_in-numbers_where (λ (k : ℕ). not (is_in k plugged)) s.managed b low))
@@ -79,7 +80,7 @@ module _ (s : Scenario) (m : Machine) (k : IsKept s m) (r : BlockRange) (may : A
       is_in-numbers_where (λ (j : ℕ). not (is_in j (device_now s m).plugged)) s.geometry.managed b (let a = at.1 in let i = may.inside in omega arith)
       ∙ all_in_range (λ (j : ℕ). not (is_in j (device_now s m).plugged)) r.first r.count b may.unplugged at.0 at.1
 
-  module _ (host : HostState) (lines : List HostLine) (device : List DeviceAction) (plugged : (device_at s.geometry device).plugged ≡ with_range r.first r.count s.geometry.managed (device_now s m).plugged)
+  module _ (host : HostState) (lines : List HostLine) (device : List DeviceAction) (plugged : (device_at s.geometry device).plugged ≡ with_range r.first r.count (device_now s m).plugged)
       (before : blocks_of m.host.online ≡ []) (now : blocks_of host.online ≡ blocks_of r) where
     abbrev unplugged_then : List ℕ
     unplugged_then = unplugged_blocks s.geometry (device_at s.geometry device).plugged

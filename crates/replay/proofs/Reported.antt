@@ -36,8 +36,8 @@ use Rattle.core_state.proofs.Starts.{length-start_pages}
 use Rattle.core_state.proofs.Entries.{page_after-quiet}
 use Rattle.core_state.proofs.Histories.{from_opening, histories_are_legal, words_show_the_history}
 use Rattle.report.specs.declared.report.Report.{Report}
-use Rattle.report.specs.FinalPages.{final_page, pages_below, state_of}
-use Rattle.report.proofs.PageLaws.{numbers, state_of-pages_below, rising-below}
+use Rattle.report.specs.FinalPages.{final_page, pages_below, pages_state}
+use Rattle.report.proofs.PageLaws.{numbers, pages_state-pages_below, rising-below}
 use Rattle.replay.specs.FramesOut.{space_now}
 use Rattle.replay.specs.Machine.{Machine, device_at}
 use Rattle.replay.specs.Runs.{opening, plain_start, shown_page, shown_below, block_list, HaveEnded, IsReportAfter, space_reported, device_start, device_reported, IsReportOf}
@@ -170,7 +170,7 @@ module _ (s : Scenario) (m : Machine) (r : Report) (run : IsRunnable s) (k : IsK
   reports_tell_legal_histories = record {
     legal = histories_are_legal o words views (plain_start s) r.history k.seats.sound opens rep.history;
     scripts = of_scripts s m k ended.owners r.history rep.history;
-    pages = ap state_of pages ∙ state_of-pages_below st s.geometry.pages beyond;
+    pages = ap pages_state pages ∙ pages_state-pages_below st s.geometry.pages beyond;
     rising = subst (λ ps. IsStrictlyIncreasing (numbers ps)) (sym pages) (rising-below st s.geometry.pages).0;
     host = host;
     device = device;

@@ -21,14 +21,18 @@ use Rattle.core_state.specs.Histories.{AllLetGo}
 use Rattle.core_state.proofs.Lists.{within, set_else, member_le_sum_by, sum_by_member, sum_by_none}
 use Rattle.core_actors.specs.declared.action.Action.{Action}
 use Rattle.core_actors.specs.declared.action.Action.TheVariants as actions
-use Rattle.core_actors.specs.declared.action.LeaseSeen.{LeaseSeen}
+use Rattle.core_actors.specs.declared.place.Place.{Place}
+use Rattle.core_actors.specs.declared.place.Place.TheVariants.{Between, InCall}
+use Rattle.core_actors.specs.declared.place.CallPlace.{CallPlace}
+use Rattle.core_actors.specs.declared.place.CallPlace.TheVariants.{Zero, MarkZeros, Map, Unmap}
+use Rattle.core_actors.specs.declared.place.CallPlace.TheVariants as places
 use Rattle.core_actors.specs.Hosts.{host_ended}
 use Rattle.core_actors.specs.Owners.{OwnerState, owner_at_start, owner_ended, next_action, owner_after}
-use Rattle.core_actors.specs.Counts.{actions_left, IsUnderWay, FindsTaken}
-use Rattle.core_actors.specs.Fits.{since_take, IsHeldFor, HoldsAfter, HoldsFor}
-use Rattle.core_actors.proofs.AllowedSteps.{next_step_allowed}
+use Rattle.core_actors.specs.Counts.{actions_left, FindsTaken}
+use Rattle.core_actors.specs.Places.{action_at}
+use Rattle.core_actors.specs.Fits.{PageHeld, has_in, seat_has, Holds}
+use Rattle.core_actors.proofs.Allowed.{next_step_allowed}
 use Rattle.core_actors.proofs.Left.{none_left}
-use Rattle.core_actors.proofs.UnderWay.{StandsNow, stands_now}
 use Rattle.replay.specs.Machine.{Machine, after_turn, after_turns}
 use Rattle.replay.specs.Schedule.{actors, rounds}
 use Rattle.replay.specs.Runs.{opening, setting}
@@ -38,40 +42,39 @@ use Rattle.replay.proofs.ActionsLeft.{owner_actions_left, all_actions_left, host
 
 -- ---- an owner that holds a page
 
--- how many actions an owner made of its call from the take on: none before it, where it holds no page
-abbrev since_take_of : List (PageNo × Call) → OwnerState → ℕ
-since_take_of [] a = 0
-since_take_of (c ∷ cs) a = since_take a c
+-- the owner has taken the page of its call
+abbrev is_page : Option PageHeld → ℕ
+is_page None = 0
+is_page (Some page) = 1
 
 abbrev made_holding : OwnerState → ℕ
-made_holding a = since_take_of a.left a
+made_holding a = is_page (seat_has a).page
 
-module _ (owner cells : ℕ) (lease : LeaseSeen) (found : ℕ) (loads : List ℕ) (made : ℕ) where
-  abbrev state : List (PageNo × Call) → Option FrameNo → OwnerState
-  state left back = record { owner = owner; cells = cells; left = left; lease = lease; found = found; loads = loads; made = made; back = back }
+no_take : (cells : ℕ) (c : PageNo × Call) (at : CallPlace) (word : ℕ) → 0 < is_page (has_in cells c.1 at).page → ¬ FindsTaken (action_at c at) word
+no_take cells c (Zero frame cell) word some = absurd (omega arith)
+no_take cells c (MarkZeros frame) word some = absurd (omega arith)
+no_take cells c (places.Take lease) word some = absurd (omega arith)
+no_take cells c (places.Draw lease found) word some = λ h. h
+no_take cells c (places.Load found loads) word some = λ h. h
+no_take cells c (places.Store found loads i) word some = λ h. h
+no_take cells c (places.Mark found loads) word some = λ h. h
+no_take cells c (Map frame kind found) word some = λ h. h
+no_take cells c (Unmap found) word some = λ h. h
+no_take cells c (places.Release lease found loads) word some = λ h. h
 
-  no_take : (c : PageNo × Call) (cs : List (PageNo × Call)) (word : ℕ) (x : Action) → 0 < made_holding (state (c ∷ cs) None) → StandsNow owner cells c cs lease found loads made x → ¬ FindsTaken x word
-  no_take c cs word (actions.Step (Take page)) some at = absurd (omega arith)
-  no_take c cs word (actions.Step Draw) some at = λ h. h
-  no_take c cs word (actions.Step (Load cell)) some at = λ h. h
-  no_take c cs word (actions.Step (Store frame cell value)) some at = λ h. h
-  no_take c cs word (actions.Step (Mark frame)) some at = λ h. h
-  no_take c cs word (actions.Step (Release end)) some at = λ h. h
-  no_take c cs word (actions.Move step) some at = λ h. h
-  no_take c cs word (actions.Space call) some at = λ h. h
-  no_take c cs word (actions.Device call) some at = λ h. h
-  no_take c cs word actions.Ended some at = λ h. h
+module _ (owner cells : ℕ) where
+  abbrev state : Place → List (PageNo × Call) → OwnerState
+  state place left = record { owner = owner; cells = cells; left = left; place = place }
 
-  goes_on : (left : List (PageNo × Call)) (back : Option FrameNo) (word : ℕ) → IsUnderWay (state left back) → 0 < made_holding (state left back)
-      → (owner_ended (state left back) ≡ false) × (¬ FindsTaken (next_action (state left back)) word)
-  goes_on [] back word way some = absurd (omega arith)
-  goes_on (c ∷ cs) (Some frame) word way some = (refl, λ h. h)
-  goes_on (c ∷ cs) None word way some = (refl, no_take c cs word (next_action (state (c ∷ cs) None)) some (stands_now owner cells c cs lease found loads made way))
+  goes_on : (place : Place) (left : List (PageNo × Call)) (word : ℕ) → 0 < made_holding (state place left) → (owner_ended (state place left) ≡ false) × (¬ FindsTaken (next_action (state place left)) word)
+  goes_on (Between back) left word some = absurd (omega arith)
+  goes_on (InCall at) [] word some = absurd (omega arith)
+  goes_on (InCall at) (c ∷ cs) word some = (refl, no_take cells c at word some)
 
 -- no page is held before the take of a call
-held_none : (cells : ℕ) (left : List (PageNo × Call)) (a : OwnerState) (held : Option Held) → since_take_of left a ≡ 0 → HoldsFor cells left a held → held ≡ None
-held_none cells [] a held none h = h
-held_none cells (c ∷ cs) a held none h = subst (λ (k : ℕ). HoldsAfter k (IsHeldFor cells c a) held) none h
+held_none : (size : ℕ) (left : List (PageNo × Call)) (page : Option PageHeld) (held : Option Held) → is_page page ≡ 0 → Holds size left page held → held ≡ None
+held_none size left None held none h = h
+held_none size left (Some page) held none h = absurd (omega arith)
 
 zero_not_one : (n : ℕ) → n ≡ 0 → ¬ (n ≡ 1)
 zero_not_one n z e = omega arith
@@ -84,8 +87,7 @@ module _ (s : Scenario) (m : Machine) (kept : IsKept s m) where
   -- an owner that holds a page goes on with its call
   holder_goes_on : (i : ℕ) (a : OwnerState) → slice_get m.owners i ≡ Some a → 0 < made_holding a → (owner_ended a ≡ false) × (¬ FindsTaken (next_action a) (found_at (setting s) m i a))
   holder_goes_on i a at some =
-      let fits = fits_at s m kept i a at in
-      goes_on a.owner a.cells a.lease a.found a.loads a.made a.left a.back (found_at (setting s) m i a) fits.under_way some
+      goes_on a.owner a.cells a.place a.left (found_at (setting s) m i a) some
 
   holder_lowers : (i : ℕ) (a : OwnerState) → slice_get m.owners i ≡ Some a → 0 < made_holding a → all_actions_left (after_turn (setting s) m (Owner (suc i))) < all_actions_left m
   holder_lowers i a at some = let on = holder_goes_on i a at some in action_lowers s m kept i a at on.0 on.1
@@ -99,7 +101,7 @@ module _ (s : Scenario) (m : Machine) (kept : IsKept s m) where
         let a : OwnerState = get_or m.owners i (owner_at_start 0 0 []) in
         let here : slice_get m.owners i ≡ Some a = slice_get-get_or m.owners i (owner_at_start 0 0 []) lt in
         let fits = (kept.seats.fits i a v here at).1 in
-        held_none (opening s).cells a.left a v.held (none i a here) fits.held)
+        held_none (opening s).cells a.left (seat_has a).page v.held (none i a here) fits.has.held)
         (λ past. (kept.seats.others (suc i) v at (inr (omega (arith, kept.seats.owners)))).rests.holds_none)
 
     nobody_holds : (page : ℕ) → holders page m.snapshot.views ≡ 0

@@ -37,11 +37,8 @@ use Rattle.core_actors.specs.Actions.{heard_by}
 use Rattle.core_actors.specs.Fits.{Fits}
 use Rattle.core_actors.specs.Hosts.{host_ended, host_action}
 use Rattle.core_actors.specs.Owners.{OwnerState, owner_at_start, owner_ended, next_action, owner_after}
-use Rattle.core_actors.proofs.AllowedMoves.{next_move_allowed}
-use Rattle.core_actors.proofs.AllowedSteps.{next_step_allowed}
-use Rattle.core_actors.proofs.AtRest.{lease_allowed}
-use Rattle.core_actors.proofs.FitActions.{fits_after_step, fits_after_move, fits_after_lease, fits_after_refusal, fits_after_return}
-use Rattle.core_actors.proofs.StaysUnderWay.{way_after_step, way_after_move, way_after_lease, way_after_refusal, way_after_return}
+use Rattle.core_actors.proofs.Allowed.{next_step_allowed, next_move_allowed, lease_allowed}
+use Rattle.core_actors.proofs.FitSteps.{fits_after_step, fits_after_move, fits_after_lease, fits_after_refusal, fits_after_return}
 use Rattle.replay.specs.FramesOut.{space_now}
 use Rattle.replay.specs.Keeping.{IsInOrder, AreSeatsKept, IsKept}
 use Rattle.replay.specs.Machine.{Scene, Machine, owner_of, scene_of, with_scene, after_lease, after_action, host_scene_of, with_host_scene, after_host_action, after_turn}
@@ -50,7 +47,8 @@ use Rattle.replay.proofs.HostSeatsKept.{host_seats_kept}
 use Rattle.replay.proofs.IdleSeats.{idle_gives, idle_takes}
 use Rattle.replay.proofs.InOrder.{step_in_order}
 use Rattle.replay.proofs.MovesInOrder.{hand_in_order, move_in_order}
-use Rattle.replay.proofs.OwnerSeats.{free_of, unplugged_of, owner_view, free_view, owner_below, owner_has, owner_fits, owner_sized, seats_apart, free_has, free_idle, lease_in_hand, lease_handed, return_handed}
+use Rattle.core_state.proofs.SeatSteps.{hand_room}
+use Rattle.replay.proofs.OwnerSeats.{free_of, unplugged_of, owner_view, free_view, owner_below, owner_has, owner_fits, seats_apart, free_has, free_idle, lease_in_hand, lease_handed, return_handed}
 use Rattle.replay.proofs.OwnersStay.{stays}
 use Rattle.replay.proofs.SeatsInPlace.{FitsAt, AreInPlace, in_place, kept_from, owner_placed, idle_placed}
 use Rattle.replay.proofs.Storable.{next_step_storable}
@@ -105,7 +103,7 @@ module _ (s : Scenario) (m : Machine) (r : IsRunnable s) (kept : IsKept s m) (i 
     may_step = next_step_allowed s.geometry (opening s) m.snapshot.words m.snapshot.views (suc i) v script a step has kept.seats.sound.pages fit.1 going is (next_step_storable a step fit.2 is)
 
     fits_stepped : Fits s.geometry (opening s) script (view_after OneOwner v step found) (owner_after a (heard_by step found))
-    fits_stepped = fits_after_step OneOwner s.geometry (opening s) v script a step found fit.1 going is (way_after_step s.geometry a fit.1.calls fit.1.under_way going step found is)
+    fits_stepped = fits_after_step s.geometry (opening s) v script a fit.1 OneOwner step found is
 
     step_kept : AreKeptWith (after_action (setting s) (suc i) (free_of m) now (actions.Step step))
     step_kept = kept_from s _
@@ -120,7 +118,7 @@ module _ (s : Scenario) (m : Machine) (r : IsRunnable s) (kept : IsKept s m) (i 
     may_move = next_move_allowed s.geometry (opening s) v script a step fit.1 going is
 
     fits_moved : Fits s.geometry (opening s) script (view_after_move OneOwner v step) (owner_after a heard.Nothing)
-    fits_moved = fits_after_move s.geometry (opening s) m.snapshot.words m.snapshot.views (suc i) v script a step has kept.seats.sound fit.1 going is may_move (way_after_move s.geometry a fit.1.calls fit.1.under_way going step is)
+    fits_moved = fits_after_move s.geometry (opening s) v script a fit.1 m.snapshot.words m.snapshot.views (suc i) step has kept.seats.sound is
 
     move_kept : AreKeptWith (after_action (setting s) (suc i) (free_of m) now (actions.Move step))
     move_kept = kept_from s _
@@ -136,7 +134,7 @@ module _ (s : Scenario) (m : Machine) (r : IsRunnable s) (kept : IsKept s m) (i 
         (subst (λ (views : List View). AreInPlace s (set m.owners i (owner_after a (heard.NoFrame (length m.journal)))) views) (set-get_or m.snapshot.views (suc i) _)
         (owner_placed s m.owners m.snapshot.views (in_place s m kept.seats) i (owner_after a (heard.NoFrame (length m.journal))) v below
         (fits_with (heard.NoFrame (length m.journal)) v
-        (fits_after_refusal s.geometry (opening s) v script a page kind (length m.journal) fit.1 going is (way_after_refusal s.geometry a fit.1.calls fit.1.under_way going page kind (length m.journal) is)))
+        (fits_after_refusal s.geometry (opening s) v script a fit.1 page kind is (length m.journal)))
         order))
 
     module _ (l : Leased) (some : lease_of s.geometry (online_of s) (space_now s m) (suc i) kind ≡ Some l) where
@@ -144,7 +142,7 @@ module _ (s : Scenario) (m : Machine) (r : IsRunnable s) (kept : IsKept s m) (i 
       frame = record { 0 = l.frame }
 
       may_lease : MayHandOver (opening s) free v l.frame 1
-      may_lease = lease_handed s m kept i a at r kind l some (lease_allowed s.geometry (opening s) v script a page kind fit.1 going is).0
+      may_lease = lease_handed s m kept i a at r kind l some (lease_allowed s.geometry (opening s) v script a fit.1 page kind is).0
 
       abbrev leased_view : View
       leased_view = record v { hand = hand_with v.hand free.hand l.frame 1 }
@@ -155,8 +153,8 @@ module _ (s : Scenario) (m : Machine) (r : IsRunnable s) (kept : IsKept s m) (i 
       fits_leased : Fits s.geometry (opening s) script leased_view (owner_after a (heard.Leased frame))
       fits_leased =
           let x = lease_in_hand s m kept i a at r kind l some in
-          fits_after_lease s.geometry (opening s) v free script a page kind frame x.0 fit.1 going is may_lease x.1 ((free_idle s m kept).sized l.frame x.0 x.1)
-          (way_after_lease s.geometry a fit.1.calls fit.1.under_way going page kind frame is)
+          fits_after_lease s.geometry (opening s) v script a fit.1 page kind is free frame x.0 may_lease x.1
+          (hand_room (opening s) m.snapshot.views kept.seats.sound.seats (free_of m) free (free_has s m kept) l.frame x.0 x.1)
 
       leased_kept : AreKeptWith (after_lease (suc i) (free_of m) now page kind (Some l))
       leased_kept = kept_from s _
@@ -182,14 +180,14 @@ module _ (s : Scenario) (m : Machine) (r : IsRunnable s) (kept : IsKept s m) (i 
     got_free = record free { hand = hand_with free.hand v.hand frame.0 1 }
 
     fits_returned : Fits s.geometry (opening s) script rid_view (owner_after a heard.Nothing)
-    fits_returned = fits_after_return s.geometry (opening s) v script a frame fit.1 going is (way_after_return s.geometry a fit.1.calls fit.1.under_way going frame is)
+    fits_returned = fits_after_return s.geometry (opening s) v script a fit.1 frame is
 
     return_kept : AreKeptWith (after_action (setting s) (suc i) (free_of m) now (actions.Space (Return frame)))
     return_kept = kept_from s _
         (hand_overs_keep_sound (opening s) m.snapshot.words m.snapshot.views (suc i) (free_of m) v free frame.0 1 has (free_has s m kept) (λ e. seats_apart s m kept i a at (sym e)) kept.seats.sound may_return)
         (idle_placed s (set m.owners i (owner_after a heard.Nothing)) (set m.snapshot.views (suc i) rid_view)
         (owner_placed s m.owners m.snapshot.views (in_place s m kept.seats) i (owner_after a heard.Nothing) rid_view below (fits_with heard.Nothing _ fits_returned) (hand_in_order v _ order))
-        (free_of m) got_free (inr past) (idle_takes (opening s) free (free_idle s m kept) v frame.0 1 may_return (owner_sized s m kept i a at)) (hand_in_order free _ free_order))
+        (free_of m) got_free (inr past) (idle_takes (opening s) free (free_idle s m kept) v frame.0 1 may_return) (hand_in_order free _ free_order))
 
   -- ---- any action
 

@@ -34,7 +34,7 @@ use Rattle.core_state.proofs.Starts.{length-opening_words, frame_within}
 use Rattle.core_state.proofs.WordsAt.{entry_word-here, entry_word-other}
 use Rattle.core_moves.proofs.MoveWords.{kind_in-mapped, frame_of-mapped}
 use Rattle.space.proofs.BlockFrames.{frame_from, in_block, frame_in_witness}
-use Rattle.space.proofs.Members.{is_in-range_with_len}
+use Rattle.evac_model.proofs.Members.{is_in-range_with_len}
 use Rattle.space.proofs.Opens.{numbers_between, out_at_place}
 use Rattle.replay.specs.FramesOut.{HasFrame, space_now, unplugged_now, AreFramesPlaced}
 use Rattle.replay.specs.Machine.{Machine, free_seat, unplugged_seat}
@@ -212,10 +212,10 @@ module _ (s : Scenario) (r : IsRunnable s) where
   last_at : (seat j : ℕ) → seat ≡ suc (length s.owners + j) → view_of m.snapshot.views seat ≡ get_or last j spent
   last_at seat j e = ap (λ (k : ℕ). view_of m.snapshot.views k) e ∙ past_owners s.geometry 1 s.owners last j
 
-  free_here : view_of m.snapshot.views (free_seat (length m.owners)) ≡ keeper_view s.geometry (free_hand s.geometry s.start)
+  free_here : view_of m.snapshot.views (free_seat (length m.owners)) ≡ keeper_view s.geometry (Some []) (free_hand s.geometry s.start)
   free_here = last_at (free_seat (length m.owners)) 1 (let n = many in omega arith)
 
-  unplugged_here : view_of m.snapshot.views (unplugged_seat (length m.owners)) ≡ keeper_view s.geometry (unplugged_hand s.geometry)
+  unplugged_here : view_of m.snapshot.views (unplugged_seat (length m.owners)) ≡ keeper_view s.geometry None (unplugged_hand s.geometry)
   unplugged_here = last_at (unplugged_seat (length m.owners)) 2 (let n = many in omega arith)
 
   driver_empty : (frame : ℕ) → ¬ HasFrame m 0 frame

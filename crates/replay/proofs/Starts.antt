@@ -25,8 +25,6 @@ use Rattle.core_state.proofs.Starts.{length-free_hand, length-unplugged_hand}
 use Rattle.core_actors.specs.CallSteps.{IsCallOf}
 use Rattle.core_actors.specs.Fits.{Fits}
 use Rattle.core_actors.specs.Owners.{OwnerState, owner_at_start}
-use Rattle.core_actors.proofs.FitSteps.{waiting_unmarked, waiting_drawn, waiting_holds, waiting_has}
-use Rattle.core_actors.proofs.StaysUnderWay.{starts_under_way}
 use Rattle.replay.specs.Keeping.{HaveNumbers, IsIdle, AreSeatsKept}
 use Rattle.replay.specs.Runs.{budgets_of, owners_from, opening, machine_at_start}
 use Rattle.replay.proofs.InOrder.{none_in_order}
@@ -102,19 +100,18 @@ module _ (s : Sizes) where
 
     fits_at_start : (number : ℕ) (script : List (PageNo × Call)) → AllByRecursion (IsOwnerCall s) script → Fits s o script (owner_view s number (length script)) (owner_at_start number s.cells script)
     fits_at_start number script all = record {
-      cells = refl;
-      owner_cells = refl;
-      pages = refl;
-      calls = calls_of script all;
-      under_way = starts_under_way number s.cells script None;
-      seated = owner_seated number (length script);
-      caller = refl;
-      callers = tt;
-      entries = refl;
-      left = let none = waiting_drawn number s.cells None script in omega arith;
-      unmarked = sym (waiting_unmarked number s.cells None script);
-      held = waiting_holds number s.cells None s.cells script;
-      hand = waiting_has number s.cells (owner_view s number (length script)) (owner_view s number (length script)) script None (λ (x : HandFrame). length x.stores ≡ s.cells) refl (λ x e. e) (none_there (frame_count s));
+      belongs = record {
+        cells = refl;
+        owner_cells = refl;
+        pages = refl;
+        calls = calls_of script all;
+        seated = owner_seated number (length script);
+        caller = refl;
+        callers = tt;
+        entries = refl;
+      };
+      under_way = tt;
+      has = record { left = omega arith; unmarked = refl; held = refl; hand = none_there (frame_count s) };
     }
 
     abbrev IsAtStart : ℕ → List (PageNo × Call) → OwnerState → View → Type 0
@@ -135,35 +132,12 @@ module _ (s : Sizes) where
           script_calls (c ∷ cs) zero all = all.0
           script_calls (c ∷ cs) (suc i) all = script_calls cs i all.1
 
-    -- ---- each seat has a place for each frame
-
-    module _ (w : IsWithinLimits s) where
-      last_seated : (i : ℕ) (v : View) → Has (scanner_view s ∷ keeper_views s start) i v → IsSeated o v
-      last_seated zero v has = subst (λ (x : View). IsSeated o x) (same_Some (scanner_view s) v has)
-          (record { cells = refl; hand = length-replicate {A = Option HandFrame} (frame_count s) None; image = length-replicate (frame_count s) [] })
-      last_seated (suc zero) v has = subst (λ (x : View). IsSeated o x) (same_Some (keeper_view s (free_hand s start)) v has)
-          (record { cells = refl; hand = length-free_hand s start w; image = tt })
-      last_seated (suc (suc zero)) v has = subst (λ (x : View). IsSeated o x) (same_Some (keeper_view s (unplugged_hand s)) v has)
-          (record { cells = refl; hand = length-unplugged_hand s w; image = tt })
-      last_seated (suc (suc (suc i))) v has = absurd (none-some v has)
-
-      owners_seated : (k : ℕ) (left : List ℕ) (i : ℕ) (v : View) → Has (owner_views s k left ++ scanner_view s ∷ keeper_views s start) i v → IsSeated o v
-      owners_seated k [] i v has = last_seated i v has
-      owners_seated k (n ∷ ns) zero v has = subst (λ (x : View). IsSeated o x) (same_Some (owner_view s k n) v has) (owner_seated k n)
-      owners_seated k (n ∷ ns) (suc i) v has = owners_seated (k + 1) ns i v has
-
-      all_seated : (i : ℕ) (v : View) → Has (opening_views s start budgets) i v → IsSeated o v
-      all_seated zero v has = subst (λ (x : View). IsSeated o x) (same_Some (driver_view s) v has)
-          (record { cells = refl; hand = length-replicate {A = Option HandFrame} (frame_count s) None; image = tt })
-      all_seated (suc i) v has = owners_seated 1 budgets i v has
-
 -- ---- the seats
 
-new_is_idle : (o : Opening) (v : View) → IsNew o v → IsSeated o v → IsIdle o v
-new_is_idle o v new seated = record {
-  rests = record { seated = seated; holds_none = new.held; all_marked = new.unmarked };
+new_is_idle : (o : Opening) (v : View) → IsNew o v → IsIdle o v
+new_is_idle o v new = record {
+  rests = record { seated = new.seated; holds_none = new.held; all_marked = new.unmarked };
   entries = new.entries;
-  sized = λ frame x is. ap (λ (l : List (Option ℕ)). length l) (new.hand frame x is) ∙ length-replicate {A = Option ℕ} o.cells None;
 }
 
 module _ (s : Scenario) (r : IsRunnable s) where
@@ -183,5 +157,5 @@ module _ (s : Scenario) (r : IsRunnable s) where
     seats = length-opening_views s.geometry s.start s.owners;
     fits = λ i a v at has. starts_fit s.geometry s.start (budgets_of s.owners) s.owners (scanner_view s.geometry ∷ keeper_views s.geometry s.start) i a v r.calls at has;
     in_order = λ i v has. let n = opens.new i v has in none_in_order v n.entries n.held;
-    others = λ i v has other. new_is_idle (opening s) v (opens.new i v has) (all_seated s.geometry s.start (budgets_of s.owners) r.limits i v has);
+    others = λ i v has other. new_is_idle (opening s) v (opens.new i v has);
   }

@@ -24,7 +24,8 @@ use Rattle.core_actors.specs.declared.action.SpaceCall.{SpaceCall}
 use Rattle.core_actors.specs.declared.action.SpaceCall.TheVariants.{Lease, Return, Online}
 use Rattle.core_actors.specs.Actions.{heard_by}
 use Rattle.core_actors.specs.Hosts.{has_none, host_ended, host_action, device_call, action_for, host_after}
-use Rattle.core_actors.specs.Owners.{OwnerState, owner_at_start, owner_ended, next_action, owner_after, after_action as state_after}
+use Rattle.core_actors.specs.Owners.{OwnerState, owner_at_start, owner_ended, next_action, owner_after}
+use Rattle.replay.proofs.NextActions.{owners_action}
 use Rattle.replay.specs.Machine.{Setting, Scene, HostScene, Machine, space_at, device_at, free_seat, unplugged_seat, after_lease, after_action, after_host_action, owner_of, with_scene, host_scene_of, with_host_scene, after_turn, after_turns}
 
 -- turns, and then turns
@@ -80,20 +81,15 @@ module _ (c : Setting) (m : Machine) (seat : ℕ) where
     hears_of_lease page kind None = refl
     hears_of_lease page kind (Some l) = refl
 
-    -- an action that leaves the owner
-    left_as_is : (x : Action) → owner_ended a ≡ false → next_action a ≡ x → state_after a heard.Nothing x ≡ a → a ≡ owner_after a heard.Nothing
-    left_as_is x going is same =
-        sym (ap (λ (b : Bool). cond b a (state_after a heard.Nothing (next_action a))) going ∙ ap (λ (y : Action). state_after a heard.Nothing y) is ∙ same)
-
     -- the owner after the action is as it stands once it has heard of it
     pub owner_hears : (x : Action) → owner_ended a ≡ false → next_action a ≡ x → (after_action c seat free (scene_with m a) x).owner ≡ owner_after a (heard_of x)
     owner_hears (actions.Step step) going is = refl
     owner_hears (actions.Move step) going is = refl
     owner_hears (actions.Space (Lease page kind)) going is = hears_of_lease page kind (lease_of c.sizes c.online (space_at c m.journal) seat kind)
     owner_hears (actions.Space (Return frame)) going is = refl
-    owner_hears (actions.Space (Online block)) going is = left_as_is (actions.Space (Online block)) going is refl
-    owner_hears (actions.Device call) going is = left_as_is (actions.Device call) going is refl
-    owner_hears actions.Ended going is = left_as_is actions.Ended going is refl
+    owner_hears (actions.Space (Online block)) going is = absurd (owners_action a (actions.Space (Online block)) going is)
+    owner_hears (actions.Device call) going is = absurd (owners_action a (actions.Device call) going is)
+    owner_hears actions.Ended going is = absurd (owners_action a actions.Ended going is)
 
 -- the word that the next action of the owner with the number after i finds, and what it hears
 abbrev pub found_at : Setting → Machine → ℕ → OwnerState → ℕ

@@ -18,6 +18,7 @@ use Rattle.core_state.specs.Views.{Has}
 use Rattle.core_actors.specs.declared.action.LeaseSeen.{LeaseSeen}
 use Rattle.core_actors.specs.declared.action.LeaseSeen.TheVariants.{NotAsked, Got, Refused}
 use Rattle.core_actors.specs.Owners.{OwnerState}
+use Rattle.core_actors.specs.Places.{lease_seen, frame_owed}
 use Rattle.replay.specs.Machine.{Machine, space_at}
 use Rattle.replay.specs.Runs.{setting}
 
@@ -42,7 +43,7 @@ owed who (Some frame) = space.Return who frame ∷ []
 pub record AreMadeSoFar (who : ℕ) (a : OwnerState) (entries : List Entry) (actions : List SpaceAction) : Type 0 where
   pub ended : List SpaceAction
   pub made : AreMadeBy entries ended
-  pub whole : actions ++ owed who a.back ≡ ended ++ made_under_way who a.left a.lease
+  pub whole : actions ++ owed who (frame_owed a.place) ≡ ended ++ made_under_way who a.left (lease_seen a.place)
 
 -- behind the first `at` actions no frame was free for a page of that kind
 pub record HadNoFrame (s : Scenario) (journal : List SpaceAction) (kind : Kind) (at : ℕ) : Type 0 where
@@ -70,7 +71,7 @@ IsRefusedNow s journal who entries calls lease = ⊤
 pub record AreOwnersCallsMade (s : Scenario) (journal : List SpaceAction) (who : ℕ) (a : OwnerState) (entries : List Entry) : Type 0 where
   pub made : AreMadeSoFar who a entries (actions_of who journal)
   pub refused : (e : Entry) (kind : Kind) (at : ℕ) → Contains entries e → e.call ≡ Alloc kind → e.reply ≡ NoFrame at → WasRefusedAt s journal who a entries e.ticket kind at
-  pub now : IsRefusedNow s journal who entries a.left a.lease
+  pub now : IsRefusedNow s journal who entries a.left (lease_seen a.place)
 
 -- each owner's actions are those of its calls, and nobody else makes any but the driver
 pub record AreCallsMade (s : Scenario) (m : Machine) : Type 0 where

@@ -16,6 +16,7 @@ use Rattle.evac_words.specs.Word.{mapped_bit, frame_of}
 use Rattle.core_state.specs.Words.{entry_word_of, kind_in}
 use Rattle.core_state.specs.Views.{view_of, hand_frame}
 use Rattle.core_actors.specs.Owners.{OwnerState}
+use Rattle.core_actors.specs.Places.{frame_owed}
 use Rattle.replay.specs.Machine.{Machine, free_seat, unplugged_seat, space_at}
 use Rattle.replay.specs.HostKept.{device_now}
 use Rattle.replay.specs.Runs.{setting}
@@ -50,4 +51,4 @@ pub record AreFramesPlaced (s : Scenario) (m : Machine) : Type 0 where
   pub offline : (block : ℕ) → is_in block (space_now s m).offline ≡ (is_in block (unplugged_now s m) || is_in block (blocks_of m.host.online))
   pub scanner : (frame : ℕ) → hand_frame (view_of m.snapshot.views (length m.owners + 1)) frame ≡ None
   pub mapped : (page : ℕ) → page < s.geometry.pages → mapped_bit (entry_word_of m.snapshot.words page) ≡ 1 → out_for (space_now s m) (frame_of (entry_word_of m.snapshot.words page)) ≡ Some (record { page = page; kind = kind_in (entry_word_of m.snapshot.words page) })
-  pub in_hand : (i : ℕ) (a : OwnerState) (frame : ℕ) → slice_get m.owners i ≡ Some a → HasFrame m (suc i) frame → IsOutForCall (space_now s m) a.left a.back frame
+  pub in_hand : (i : ℕ) (a : OwnerState) (frame : ℕ) → slice_get m.owners i ≡ Some a → HasFrame m (suc i) frame → IsOutForCall (space_now s m) a.left (frame_owed a.place) frame

@@ -7,13 +7,12 @@ use Rattle.evac_model.specs.declared.call.Call.{Call}
 use Rattle.evac_model.specs.declared.entry.Entry.{Entry}
 use Rattle.evac_model.specs.ScenarioLines.{HasNumbers}
 use Rattle.evac_model.specs.Scripts.{script_of}
-use Rattle.core_state.specs.declared.hand.HandFrame.{HandFrame}
 use Rattle.core_state.specs.declared.held.Held.{Held}
 use Rattle.core_state.specs.declared.opening.Opening.{Opening}
 use Rattle.core_state.specs.declared.view.View.{View}
 use Rattle.core_state.specs.HandOvers.{IsAtRest}
 use Rattle.core_state.specs.Sound.{Sound}
-use Rattle.core_state.specs.Views.{Has, hand_frame}
+use Rattle.core_state.specs.Views.{Has}
 use Rattle.core_actors.specs.Owners.{OwnerState}
 use Rattle.core_actors.specs.Fits.{Fits}
 use Rattle.replay.specs.Machine.{Machine}
@@ -41,7 +40,6 @@ HaveNumbers calls = AllByRecursion (λ c. HasNumbers c.1) calls
 pub record IsIdle (o : Opening) (v : View) : Type 0 where
   pub rests : IsAtRest o v
   pub entries : v.entries ≡ []
-  pub sized : (frame : ℕ) (x : HandFrame) → hand_frame v frame ≡ Some x → length x.stores ≡ o.cells
 
 -- The snapshot is sound, each owner's seat is as its script has it, and the other seats make no calls.
 pub record AreSeatsKept (s : Scenario) (m : Machine) : Type 0 where

@@ -23,7 +23,7 @@ use Rattle.core_actors.specs.Hosts.{host_at_start, host_ended}
 use Rattle.core_actors.specs.Owners.{OwnerState, owner_at_start, owner_ended}
 use Rattle.report.specs.declared.report.FinalPage.{FinalPage}
 use Rattle.report.specs.declared.report.Report.{Report}
-use Rattle.report.specs.FinalPages.{final_page, state_of}
+use Rattle.report.specs.FinalPages.{final_page, pages_state}
 use Rattle.replay.specs.Machine.{Setting, Machine, device_at, after_turns}
 use Rattle.replay.specs.Schedule.{schedule, round_count}
 
@@ -132,7 +132,7 @@ device_reported s r = device_at s.geometry r.device_journal
 pub record IsReportOf (s : Scenario) (r : Report) : Type 0 where
   pub legal : IsLegal s.geometry.cells (plain_start s) r.history
   pub scripts : IsOfScripts s.owners r.history
-  pub pages : state_of r.pages ≡ after_entries s.geometry.cells (plain_start s) r.history
+  pub pages : pages_state r.pages ≡ after_entries s.geometry.cells (plain_start s) r.history
   pub rising : IsStrictlyIncreasing (map (λ p. p.page.0) r.pages)
   pub host : r.host ≡ host_runs s.host (host_lines s.geometry (device_start s) 0 s.host)
   pub device : r.device_journal ≡ host_actions s.geometry (device_start s) s.host

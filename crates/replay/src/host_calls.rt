@@ -9,7 +9,7 @@ ghost use Rattle.evac_model.specs.HostCommands.{BlockRange, answer_to, plugged_b
 ghost use Rattle.core_state.specs.CoreState.{IsSound};
 ghost use Rattle.core_actors.specs.Hosts.{HostState, host_heard, line_of_heard};
 ghost use Rattle.evac_model.specs.Numbers.{is_in};
-ghost use Rattle.dma_listeners.specs.BlockLists.{without_blocks};
+ghost use Rattle.evac_model.specs.Numbers.{without_range};
 ghost use Rattle.core_actors.specs.declared.action.DeviceCall.{DeviceCall};
 ghost use Rattle.replay.specs.HostSeats.{HostSoFar, MayHandBlocks, MayRequest, MayAskDevice, MayPutOnline, host_scene, heard_so_far, asked_blocks};
 ghost use Rattle.replay.specs.Machine.{device_at, handed_blocks, answered, after_device_call, after_online};
@@ -133,7 +133,7 @@ pub(crate) fn put_online(
     requires room { held.old.room ≡ space.old.sizes.managed }
     ensures online { (h : HostSoFar) (device : List DeviceAction) → host_scene core.new.snapshot (heard_so_far h result) space.new.journal device
         ≡ after_online space.old.sizes free (host_scene core.old.snapshot h space.old.journal device) block }
-    ensures held { held.new.blocks ≡ without_blocks block.0 1 held.old.blocks }
+    ensures held { held.new.blocks ≡ without_range block.0 1 held.old.blocks }
     ensures room { held.new.room ≡ held.old.room }
     ensures setting { setting_of core.new.opening space.new ≡ setting_of core.old.opening space.old }
     ensures sound { IsSound core.new }

@@ -20,6 +20,3 @@ pub use laws::{
 };
 pub use replay::Replay;
 pub use report::{FinalPage, FinalPageList, Report};
-
-#[cfg(test)]
-mod tests;

@@ -21,6 +21,16 @@ pub(crate) struct Running {
     pub(crate) owners: Listed<OwnerSeat>,
 }
 
+/// All of a machine but its core, to be given back as one.
+#[derive(Drop)]
+struct Rest {
+    space: Space,
+    device: ReplayDevice,
+    held: BlockHand,
+    host: HostSeat,
+    owners: Listed<OwnerSeat>,
+}
+
 impl Model for Running {
     ghost use Rattle.replay.specs.Machine.{Run};
     ghost use Rattle.replay.specs.RunningInside.{run_of, IsRunning};
@@ -33,9 +43,37 @@ impl Model for Running {
 }
 
 impl Running {
-    ghost use Rattle.std.specs.Prelude.{◌≡◌, ◌∷◌, [], true, length, OnOk, OnErr};
+    ghost use Rattle.std.specs.Prelude.{◌≡◌, ◌<◌, ◌∷◌, ℕ, [], true, length, OnOk, OnErr, IsSome};
+    ghost use Rattle.core_state.specs.Pages.{entry_with};
+    ghost use Rattle.core_state.specs.Words.{next_ticket_of};
     ghost use Rattle.replay.specs.Machine.{run_after};
     ghost use Rattle.replay.specs.Runs.{AllEnded, HaveEnded};
+
+    /// The core of a machine whose actors have all ended, with an entry for each ticket drawn. The memory
+    /// of the rest is given back.
+    pub fn into_core(self) -> Core
+        requires ended { HaveEnded self.machine }
+        ensures snapshot { result.snapshot ≡ self.machine.snapshot }
+        ensures words { 0 < length result.snapshot.words }
+        ensures entries { (t : ℕ) → t < next_ticket_of result.snapshot.words → IsSome (entry_with t result.snapshot.views) }
+    {
+        let Running {
+            core,
+            space,
+            device,
+            held,
+            host,
+            owners,
+        } = self;
+        let _rest = Rest {
+            space,
+            device,
+            held,
+            host,
+            owners,
+        };
+        core
+    }
 
     /// How many owners there are.
     pub fn owner_count(&self) -> u32

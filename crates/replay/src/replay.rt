@@ -1,13 +1,18 @@
 //! The replay of a scenario.
 
-ghost use Rattle.std.specs.Prelude.{◌≡◌, ◌≤◌, ◌^◌, [], length, IfOk};
+ghost use Rattle.std.specs.Prelude.{◌≡◌, ◌<◌, ◌≤◌, ◌^◌, ℕ, List, [], length, IfOk, IsSome};
 ghost use Rattle.std.specs.List.{AllByRecursion};
 ghost use Rattle.evac_model.specs.Scenarios.{IsRunnable, IsOwnerCall};
 ghost use Rattle.evac_model.specs.ScenarioGrammar.{call_count, online_of};
 ghost use Rattle.evac_model.specs.Turns.{turn_count};
+ghost use Rattle.evac_model.specs.declared.entry.Entry.{Entry};
 ghost use Rattle.evac_model.specs.declared.scenario.Scenario.{Scenario};
 ghost use Rattle.replay.specs.Keeping.{IsKept};
+ghost use Rattle.core_state.specs.declared.opening.Opening.{Opening};
 ghost use Rattle.core_state.specs.CoreState.{IsSound};
+ghost use Rattle.core_state.specs.Histories.{IsHistoryOf};
+ghost use Rattle.core_state.specs.Pages.{entry_with};
+ghost use Rattle.core_state.specs.Words.{next_ticket_of};
 ghost use Rattle.core_actors.specs.Hosts.{host_at_start};
 ghost use Rattle.evac_model.specs.SpaceJournal.{space_at_start};
 ghost use Rattle.replay.specs.Seats.{setting_of};
@@ -23,15 +28,16 @@ use crate::owner_seat::OwnerSeat;
 use crate::pages::{final_pages, plugged_blocks};
 use crate::schedule;
 use core_actors::{Host, Owner};
-use core_state::Core;
+use core_state::{Core, Snapshot};
 use evac_model::{
-    BlockNo, CallList, CommandList, Drawn, Geometry, HostCommand, Kind, Listed, OutOfMemory,
-    Scenario, Turn, TurnList,
+    BlockNo, CallList, CommandList, Drawn, EntryList, Geometry, HostCommand, Kind, Listed,
+    OutOfMemory, Scenario, ScriptList, Turn, TurnList,
 };
 use mem_device::{BlockHand, Device, SureSlate};
 use report::Report;
 use space::Space;
 use std::alloc::{AllocError, Global};
+use std::collections::LinkedList;
 use std::marker::Model;
 
 /// The number of calls of each script.
@@ -57,24 +63,28 @@ fn calls_in(scripts: &[CallList]) -> u64
     calls
 }
 
-/// A copy of a script.
-fn copied(alloc: Global, script: &CallList) -> Result<CallList, AllocError>
-    ensures { IfOk result (λ copy. copy ≡ script.now) }
+/// Copies of scripts.
+fn scripts_of(alloc: Global, scripts: &[CallList]) -> Result<ScriptList, AllocError>
+    ensures { IfOk result (λ copies. copies ≡ scripts.now) }
 {
-    Ok(Listed::from_vec(Vec::from_slice(alloc, script.as_slice())?))
+    let mut copies = Vec::with_capacity(alloc, scripts.len())?;
+    for script in scripts {
+        copies.push(Listed::from_vec(Vec::from_slice(alloc, script.as_slice())?))?;
+    }
+    Ok(Listed::from_vec(copies))
 }
 
 /// The owners of the scripts, that of owner 1 first.
-fn owners(alloc: Global, g: &Geometry, scripts: &[CallList]) -> Result<Vec<OwnerSeat>, AllocError>
-    requires calls { AllByRecursion (λ script. AllByRecursion (IsOwnerCall g.now) script) scripts.now }
-    requires few { length scripts.now ≤ 16 }
-    ensures { IfOk result (λ v. v.items ≡ owners_from g.now.cells 1 scripts.now) }
+fn owners(alloc: Global, g: &Geometry, scripts: Vec<CallList>) -> Result<Vec<OwnerSeat>, AllocError>
+    requires calls { AllByRecursion (λ script. AllByRecursion (IsOwnerCall g.now) script) scripts.items }
+    requires few { length scripts.items ≤ 16 }
+    ensures { IfOk result (λ v. v.items ≡ owners_from g.now.cells 1 scripts.items) }
 {
     let mut seats = Vec::with_capacity(alloc, scripts.len())?;
     let mut number = 0;
     for script in scripts {
         number += 1;
-        seats.push(OwnerSeat::new(Owner::new(*g, number, copied(alloc, script)?)))?;
+        seats.push(OwnerSeat::new(Owner::new(*g, number, script)))?;
     }
     Ok(seats)
 }
@@ -91,6 +101,13 @@ fn count_turns(turns: &[Turn]) -> u64
     count
 }
 
+/// A copy of named turns.
+fn turns_of(alloc: Global, turns: &[Turn]) -> Result<TurnList, AllocError>
+    ensures { IfOk result (λ copy. copy ≡ turns.now) }
+{
+    Ok(Listed::from_vec(Vec::from_slice(alloc, turns)?))
+}
+
 /// A copy of commands.
 fn commands_of(alloc: Global, commands: &[HostCommand]) -> Result<CommandList, AllocError>
     ensures { IfOk result (λ copy. copy ≡ commands.now) }
@@ -98,28 +115,51 @@ fn commands_of(alloc: Global, commands: &[HostCommand]) -> Result<CommandList, A
     Ok(Listed::from_vec(Vec::from_slice(alloc, commands)?))
 }
 
-/// What a machine leaves whose actors have all ended.
-fn report_of(alloc: Global, commands: &[HostCommand], run: &Running) -> Result<Report, OutOfMemory>
-    requires ended { HaveEnded run.now.machine }
-    ensures { IfOk result (λ report. (s : Scenario) → run.now.setting ≡ setting s → commands.now ≡ s.host → IsKept s run.now.machine → IsReportAfter s run.now.machine report) }
+/// What a machine leaves, but for the entries.
+fn notes_of(alloc: Global, commands: &[HostCommand], run: &Running) -> Result<Report, OutOfMemory>
+    ensures { IfOk result (λ notes. (s : Scenario) (h : List Entry) → run.now.setting ≡ setting s → commands.now ≡ s.host → IsKept s run.now.machine
+        → IsHistoryOf (opening s) run.now.machine.snapshot.words run.now.machine.snapshot.views h → IsReportAfter s run.now.machine (record notes { history = h })) }
 {
-    let snapshot = run.core.snapshot();
-    let words = snapshot.words.as_slice();
-    let opening = run.core.opening();
-    let history = history(alloc, snapshot.views.as_slice(), words[0] as usize)?;
+    let words = run.core.snapshot().words.as_slice();
     let host = runs(alloc, commands, run.host.lines())?;
-    let pages = final_pages(alloc, opening, words)?;
+    let pages = final_pages(alloc, run.core.opening(), words)?;
     let plugged = plugged_blocks(alloc, run.device.plugged())?;
     let journal = Vec::from_slice(alloc, run.space.journal())?;
     let device = actions(alloc, run.device.journal())?;
     Ok(Report {
-        history: Listed::from_vec(history),
+        history: LinkedList::new(alloc),
         host: Listed::from_vec(host),
         space_journal: Listed::from_vec(journal),
         device_journal: Listed::from_vec(device),
         plugged: Listed::from_vec(plugged),
         pages: Listed::from_vec(pages),
     })
+}
+
+/// The entries of a core whose seats have all let go, moved into the order of their tickets.
+fn entries_of(alloc: Global, core: Core) -> Result<EntryList, OutOfMemory>
+    requires words { 0 < length core.snapshot.words }
+    requires each { (t : ℕ) → t < next_ticket_of core.snapshot.words → IsSome (entry_with t core.snapshot.views) }
+    ensures { IfOk result (λ h. (o : Opening) → o.first ≡ 0 → IsHistoryOf o core.snapshot.words core.snapshot.views h) }
+{
+    let (_, snapshot) = core.into_parts();
+    let Snapshot { words, views } = snapshot;
+    let count = words.as_slice()[0] as usize;
+    let entries = history(alloc, views.into_vec(), count)?;
+    Ok(entries)
+}
+
+/// What a machine leaves whose actors have all ended. The scripts, and the memory that steps needed, are given
+/// back before the entries are put in order.
+fn report_of(alloc: Global, commands: &[HostCommand], run: Running) -> Result<Report, OutOfMemory>
+    requires ended { HaveEnded run.machine }
+    ensures { IfOk result (λ report. (s : Scenario) → run.setting ≡ setting s → commands.now ≡ s.host → IsKept s run.machine → IsReportAfter s run.machine report) }
+{
+    let notes = notes_of(alloc, commands, &run);
+    let entries = entries_of(alloc, run.into_core());
+    let mut report = notes?;
+    report.history = entries?;
+    Ok(report)
 }
 
 /// The core of a scenario at its start.
@@ -189,18 +229,34 @@ fn joined(
     }
 }
 
-/// The machine of a scenario at its start.
-fn running(alloc: Global, s: &Scenario) -> Result<Running, OutOfMemory>
-    requires { IsRunnable s.now }
-    ensures { IfOk result (λ r. r ≡ record { setting = setting s.now; machine = machine_at_start s.now }) }
+/// The machine of a scenario at its start. Its owners have the scripts that the scenario had.
+fn running(alloc: Global, s: Scenario) -> Result<Running, OutOfMemory>
+    requires { IsRunnable s }
+    ensures { IfOk result (λ r. r ≡ record { setting = setting s; machine = machine_at_start s }) }
 {
-    let host = host_of(alloc, s)?;
-    let owners = owners(alloc, &s.geometry, s.owners.as_slice())?;
+    let host = host_of(alloc, &s)?;
     let held = empty_hand(alloc, s.geometry)?;
-    let space = space_of(alloc, s)?;
-    let core = core_of(alloc, s)?;
-    let device = device_of(alloc, s.geometry)?;
+    let space = space_of(alloc, &s)?;
+    let core = core_of(alloc, &s)?;
+    let geometry = s.geometry;
+    let owners = owners(alloc, &geometry, s.owners.into_vec())?;
+    let device = device_of(alloc, geometry)?;
     Ok(joined(core, space, device, held, host, owners))
+}
+
+/// A copy of a scenario.
+fn scenario_of(alloc: Global, s: &Scenario) -> Result<Scenario, AllocError>
+    ensures { IfOk result (λ copy. copy ≡ s.now) }
+{
+    Ok(Scenario {
+        geometry: s.geometry,
+        online: s.online,
+        start: Listed::from_vec(Vec::from_slice(alloc, s.start.as_slice())?),
+        named: turns_of(alloc, s.named.as_slice())?,
+        drawn: s.drawn,
+        owners: scripts_of(alloc, s.owners.as_slice())?,
+        host: commands_of(alloc, s.host.as_slice())?,
+    })
 }
 
 /// The replay of one scenario: its turns, and the machine at the start. Each turn makes one step of one
@@ -237,14 +293,22 @@ impl Replay {
     ghost use Rattle.replay.specs.Schedule.{schedule, round_bound, round_count, turn_bound};
 
     /// The machine of a scenario at its start, and its turns. It takes the memory of the words, of the
-    /// views, of the frame space and of a copy of the scripts.
+    /// views, of the frame space and of a copy of the scenario.
     pub fn open(alloc: Global, s: &Scenario) -> Result<Replay, OutOfMemory>
         requires { IsRunnable s.now }
         ensures { IfOk result (λ r. r ≡ replay_of s.now) }
     {
+        Replay::from_scenario(alloc, scenario_of(alloc, s)?)
+    }
+
+    /// The same of a scenario that is used up: its scripts are those of the run, and aren't copied.
+    pub fn from_scenario(alloc: Global, s: Scenario) -> Result<Replay, OutOfMemory>
+        requires { IsRunnable s }
+        ensures { IfOk result (λ r. r ≡ replay_of s) }
+    {
         Ok(Replay {
             geometry: s.geometry,
-            named: Listed::from_vec(Vec::from_slice(alloc, s.named.as_slice())?),
+            named: turns_of(alloc, s.named.as_slice())?,
             drawn: s.drawn,
             calls: calls_in(s.owners.as_slice()),
             commands: commands_of(alloc, s.host.as_slice())?,
@@ -297,6 +361,6 @@ impl Replay {
         schedule::named(&mut run, named.as_slice())?;
         schedule::drawn(&mut run, owners, &drawn)?;
         schedule::rounds(&mut run, owners, most)?;
-        report_of(alloc, commands.as_slice(), &run)
+        report_of(alloc, commands.as_slice(), run)
     }
 }

@@ -5,7 +5,7 @@ ghost use Rattle.core_state.specs.CoreState.{IsSound};
 ghost use Rattle.core_actors.specs.Actions.{owner_heard};
 ghost use Rattle.core_actors.specs.Owners.{OwnerState};
 ghost use Rattle.evac_model.specs.SpaceJournal.{lease_of};
-ghost use Rattle.space.specs.JournaledSpace.{state_of};
+ghost use Rattle.space.specs.JournaledSpace.{space_state};
 ghost use Rattle.replay.specs.Machine.{after_lease, after_return, after_call};
 ghost use Rattle.replay.specs.Seats.{setting_of, scene, MayLease, MayReturn, MayAsk};
 
@@ -32,7 +32,7 @@ fn lease(
     requires page { page.0 < space.old.sizes.pages }
     requires may { MayLease (setting_of core.old.opening space.old) seat free core.old.snapshot space.old.journal kind }
     ensures leased { IfOk result (λ heard. (a : OwnerState) → scene core.new.snapshot (owner_heard a heard) space.new.journal
-        ≡ after_lease seat free (scene core.old.snapshot a space.old.journal) page kind (lease_of space.old.sizes space.old.online (state_of space.old) seat kind)) }
+        ≡ after_lease seat free (scene core.old.snapshot a space.old.journal) page kind (lease_of space.old.sizes space.old.online (space_state space.old) seat kind)) }
     ensures sound { IsSound core.new }
     ensures setting { setting_of core.new.opening space.new ≡ setting_of core.old.opening space.old }
     ensures err { OnErr result ((core.new ≡ core.old) × (space.new ≡ space.old)) }

@@ -1,13 +1,18 @@
-use Rattle.std.proofs.Common.{◌≡◌, ◌∙◌, List, length, ap, Option}
+use Rattle.std.proofs.Common.{◌∙◌, List, length, ap, sym}
+use Rattle.std.specs.List.{slice_get}
+use Rattle.std.proofs.lemmas.Result.{IfOk-weaker}
 use Rattle.evac_model.specs.declared.entry.Entry.{Entry}
-use Rattle.replay.proofs.Places.{written_back, all_there}
+use Rattle.replay.proofs.Places.{at_all, places_are, history-count, history-each}
 use Rattle.replay.proofs.history.history.Goals as goal
 
-pub entries_at-requires : goal.entries_at-requires
-entries_at-requires c =
-    let old = c.in_ok-places.places.items in
-    let new = c.place_all.new.places in
-    let lent : c.as_mut_slice.result.now ≡ old = c.as_mut_slice.ensures.value in
-    let long : length new ≡ length old = c.place_all.ensures.long ∙ ap (λ (l : List (Option Entry)). length l) lent in
-    let is = c.as_slice.ensures.value ∙ written_back c.in_ok-places.places.len new old c.in_ok-places.places.ok.0 long in
-    all_there c.as_slice.result.now new c.as_mut_slice.result.now c.args.views.now c.args.count is c.place_all.ensures.long (lent ∙ c.in_ok-places.ensures) c.place_all.ensures.placed c.requires
+pub returns-clause-count : goal.returns-clause-count
+returns-clause-count c =
+    let are = places_are _ _ _ _ c.args.views.items c.args.count c.in_ok-places.places.ok.0 c.in_ok-places.ensures c.as_mut_slice.ensures.value c.place_all.ensures in
+    IfOk-weaker c.entries_at.result _ _ (λ h is. ap (λ (l : List Entry). length l) (is ∙ ap (λ (l : List (List Entry)). at_all l) are) ∙ history-count c.args.views.items c.args.count c.requires) c.entries_at.ensures
+
+pub returns-clause-each : goal.returns-clause-each
+returns-clause-each c =
+    let are = places_are _ _ _ _ c.args.views.items c.args.count c.in_ok-places.places.ok.0 c.in_ok-places.ensures c.as_mut_slice.ensures.value c.place_all.ensures in
+    IfOk-weaker c.entries_at.result _ _
+    (λ h is t e at. history-each c.args.views.items c.args.count c.requires t e (ap (λ (l : List Entry). slice_get l t) (sym (is ∙ ap (λ (l : List (List Entry)). at_all l) are)) ∙ at))
+    c.entries_at.ensures

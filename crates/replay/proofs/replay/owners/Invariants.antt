@@ -1,4 +1,4 @@
-use Rattle.std.proofs.Common.{◌≡◌, ◌+◌, ◌++◌, drop}
+use Rattle.std.proofs.Common.{◌≡◌, ◌+◌, ◌++◌, length}
 use Rattle.std.specs.List.{AllByRecursion}
 use Rattle.evac_model.specs.Scenarios.{IsOwnerCall}
 use Rattle.replay.specs.Runs.{owners_from}
@@ -6,7 +6,7 @@ use Rattle.replay.proofs.replay.owners.Given as goal
 
 abbrev pub invariant-loop-script : goal.invariant-loop-script
 invariant-loop-script l = record {
-  number : l.number ≡ l.script-index;
-  seats : l.seats.items ++ owners_from l.g.cells (l.script-index + 1) (drop l.script-index l.scripts) ≡ owners_from l.g.cells 1 l.scripts;
-  calls : AllByRecursion (λ script. AllByRecursion (IsOwnerCall l.g) script) (drop l.script-index l.scripts);
+  number : l.number + length l.script-iterator.rest.items ≡ length l.fn.scripts.items;
+  seats : l.seats.items ++ owners_from l.g.cells (l.number + 1) l.script-iterator.rest.items ≡ owners_from l.g.cells 1 l.fn.scripts.items;
+  calls : AllByRecursion (λ script. AllByRecursion (IsOwnerCall l.g) script) l.script-iterator.rest.items;
 }
