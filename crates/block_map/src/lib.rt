@@ -1,4 +1,4 @@
-//! Which managed blocks of a machine are plugged, one bit for each, after the bitmap of QEMU's
+//! Which device blocks of a machine are plugged, one bit for each, after the bitmap of QEMU's
 //! virtio-mem device.
 #![tactic(auto)]
 

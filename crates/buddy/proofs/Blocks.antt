@@ -24,6 +24,10 @@ block_range : (s : Sizes) (b m k : ℕ) → s.block ≡ m → is_between (s.boot
 block_range s b m k e =
     ap (λ (n : ℕ). is_between (s.boot * s.block + b * s.block) (s.boot * s.block + b * s.block + n) k) (sym e) ∙ sym (frames_of_block s b k)
 
+-- the frames of the boot blocks, by what the runs are seen as
+pub boot_of : {u v : FreeFrames} {n : ℕ} → u ≡ v → n ≡ v.sizes.boot * v.sizes.block → n ≡ u.sizes.boot * u.sizes.block
+boot_of e h = h ∙ sym (ap (λ (v : FreeFrames). v.sizes.boot * v.sizes.block) e)
+
 -- where the block lies among the managed blocks' frames, and among all
 pub block_in_managed : (s : Sizes) (b m : ℕ) → b < s.managed → s.block ≡ m → b * s.block + m ≤ s.managed * s.block
 block_in_managed s b m h e = omega (arith, block_within s.managed b s.block h, e)

@@ -20,8 +20,8 @@ pub record AreSplit (top order orders : ℕ) (was : List Bool) (low high : Part)
   pub same : flags (alike top order orders) order (low.free ++ high.free) ≡ was
   pub bits : orders ≡ orders_of top order was
 
-pub split : (top order orders : ℕ) (halves : Halves) (p : Part) (low high : Box Tree Global) → part_of top order orders halves ≡ p → IsNode top order orders halves → halves ≡ Two low high → AreSplit top order orders p.free low.value high.value
-split top order orders halves p low high view node is =
+pub split : {top order orders : ℕ} {halves : Halves} {p : Part} {low high : Box Tree Global} → part_of top order orders halves ≡ p → IsNode top order orders halves → halves ≡ Two low high → AreSplit top order orders p.free low.value high.value
+split {top} {order} {orders} {halves} {p} {low} {high} view node is =
     let both = subst (AreHalves top order) is node.in_halves in
     record {
       is_low = both.0;
@@ -45,6 +45,20 @@ handed_down top order orders was l h all low high s e el eh =
       is_high = half_handed top order all h s.is_high;
       same = handed_free top order all l h s.is_low s.is_high ∙ ap (λ (o : Option Bool). flags o order (l.free ++ h.free)) e ∙ s.same;
     }))
+
+-- the halves of a node, once each was handed what the node says
+pub halves_down : {top order orders : ℕ} {halves : Halves} {p l h low' high' : Part} {low high : Box Tree Global} {all : Option Bool} → part_of top order orders halves ≡ p → IsNode top order orders halves → halves ≡ Two low high → all ≡ alike top order orders → l ≡ low.value → low' ≡ handed all l → h ≡ high.value → high' ≡ handed all h → AreHandedDown top order p.free low' high'
+halves_down {top} {order} {orders} {halves} {p} {l} {h} {low'} {high'} {low} {high} {all} view node is same at_low el at_high eh =
+    handed_down top order orders p.free low.value high.value all low' high' (split view node is) same (el ∙ ap (handed all) at_low) (eh ∙ ap (handed all) at_high)
+
+-- what ends in a part ends in what it is seen as
+pub in_order : {p q : Part} {end : ℕ} → p ≡ q → end ≤ 2 ^ q.order → end ≤ 2 ^ p.order
+in_order {p} {q} {end} e h = subst (λ (k : ℕ). end ≤ 2 ^ k) (sym (ap (λ (r : Part). r.order) e)) h
+
+-- the orders of two halves that were read
+pub joined_bits : (top order : ℕ) {bits : ℕ} {l h low high : Part} → bits ≡ orders_of top order (l.free ++ h.free) → l ≡ low → h ≡ high → bits ≡ orders_of top order (low.free ++ high.free)
+joined_bits top order {bits} {l} {h} {low} {high} e el eh =
+    e ∙ ap (λ (p : Part). orders_of top order (p.free ++ h.free)) el ∙ ap (λ (p : Part). orders_of top order (low.free ++ p.free)) eh
 
 -- the halves of a part whose frames from first on are others
 pub record AreChanged (top order first n : ℕ) (others was : List Bool) (low high : Part) : Type 0 where

@@ -1,6 +1,6 @@
 //! Where bytes go.
 
-ghost use Rattle.std.specs.Prelude.{◌≡◌, ℕ, ◌<◌, ◌≤◌, List, Option, length, take, IfOk, OnErr};
+ghost use Rattle.std.specs.Prelude.{◌≡◌, ℕ, ◌<◌, ◌≤◌, List, Option, length, take, IfOk, OnOk, OnErr};
 ghost use Rattle.evac_model.specs.Counts.{Rose};
 ghost use Rattle.evac_io.specs.Told.{Takes};
 
@@ -20,6 +20,10 @@ pub trait Sink {
         ensures bound { IfOk result (λ count. count ≤ length piece.now) }
         ensures some { IfOk result (λ count. 0 < length piece.now → 0 < count) }
         ensures takes { IfOk result (λ count. Takes (taken self.old) (taken self.new) (take count piece.now)) }
+
+        // What was taken met no fault.
+        ensures ok { OnOk result (faults self.new ≡ faults self.old) }
+
         ensures err { OnErr result (taken self.new ≡ taken self.old) }
         ensures cause { OnErr result (Rose (faults self.old) (faults self.new)) }
         ensures counts { faults self.old ≤ faults self.new };

@@ -13,6 +13,7 @@ pub mod Numbers
 pub mod Ranges
 pub mod Members
 pub mod Unions
+pub mod Rising
 pub mod Padded
 pub mod Pairings
 pub mod PairedExample

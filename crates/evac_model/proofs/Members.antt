@@ -1,11 +1,19 @@
 -- Which numbers stand in lists joined and filtered, and in ranges.
-use Rattle.std.proofs.Common.{◌≡◌, ◌≢◌, ℕ, zero, suc, ◌+◌, Bool, true, false, cond, ◌&&◌, ◌||◌, List, [], ◌∷◌, ◌++◌, refl, sym, ap, ◌∙◌, arith, inl, inr}
-use Rattle.std.specs.List.{filter, range_with_len}
+use Rattle.std.proofs.Common.{◌≡◌, ◌≢◌, ◌↔◌, ℕ, zero, suc, ◌+◌, Bool, true, false, cond, ◌&&◌, ◌||◌, List, [], ◌∷◌, ◌++◌, refl, sym, ap, ◌∙◌, arith, inl, inr}
+use Rattle.std.specs.List.{Contains, filter, range_with_len}
 use Rattle.std.proofs.Math.Dec.{eqb}
 use Rattle.std.proofs.Math.Bool.{or_assoc}
 use Rattle.std.proofs.lemmas.Bool.{cases_lt, cases_eq, eqb-true, eq-eqb, ne_eqb, true≢false}
+use Rattle.std.proofs.lemmas.Bool.Decides.{Decides-eqb, Decides-like, Decides-by_or}
+use Rattle.std.proofs.lemmas.List.Elements.{Decides-contains}
 use Rattle.evac_model.specs.Numbers.{is_in, is_between}
 use Rattle.evac_model.proofs.Ranges.{between_inside, between_below, between_above, between_none}
+
+-- a number that stands in a list is one of the list's
+pub is_in-contains : (xs : List ℕ) (b : ℕ) → (is_in b xs ≡ true) ↔ Contains xs b
+is_in-contains xs b =
+    Decides-contains xs b (is_in b xs)
+    (Decides-by_or (λ y. eqb b y) (λ y. y ≡ b) (is_in b) (λ y. Decides-like (eqb b y) (λ e. sym e) (λ e. sym e) (Decides-eqb b y)) refl (λ _ _. refl) xs)
 
 pub is_in-append : (b : ℕ) (xs ys : List ℕ) → is_in b (xs ++ ys) ≡ (is_in b xs || is_in b ys)
 is_in-append b [] ys = refl

@@ -31,7 +31,7 @@ numbers_bound p n m hn hm =
     ]
 
 -- no number from the end on stands in a list
-is_in-end : (xs : List ℕ) (b : ℕ) → end_of xs ≤ b → is_in b xs ≡ false
+pub is_in-end : (xs : List ℕ) (b : ℕ) → end_of xs ≤ b → is_in b xs ≡ false
 is_in-end [] b h = refl
 is_in-end (x ∷ xs) b h =
     let other : eqb b x ≡ false = ne_eqb b x (λ e. omega (arith, e, h)) in

@@ -1,5 +1,6 @@
 -- Counts of what went wrong outside: numbers of 64 bits that stand still at the largest one; and calls of which listed ones fail.
 use Rattle.std.specs.Prelude.{◌≡◌, ℕ, ◌+◌, ◌-◌, ◌^◌, ◌<◌, ◌⊎◌, ⊤, min, List, Contains, Option, None, Some}
+use Rattle.evac_model.specs.Numbers.{rising}
 
 -- one more, where the largest number stands still
 abbrev pub one_more : ℕ → ℕ
@@ -14,14 +15,14 @@ abbrev pub WhereTold : {A : Type 0} → Option A → (A → Type 0) → Type 0
 WhereTold None P = ⊤
 WhereTold (Some x) P = P x
 
--- the numbers of the calls that fail, from 1, and how many calls were made
+-- the numbers of the calls that fail, from 1, rising, and how many calls were made
 pub record Calls : Type 0 where
   pub fails : List ℕ
   pub made : ℕ
 
--- before the first call
+-- before the first call, where these calls fail
 abbrev pub first_of_calls : List ℕ → Calls
-first_of_calls fails = record { fails = fails; made = 0 }
+first_of_calls fails = record { fails = rising fails; made = 0 }
 
 -- one call later
 abbrev pub after_call : Calls → Calls

@@ -10,7 +10,8 @@ use Rattle.evac_model.specs.declared.device.Response.TheVariants.{Ack, Nack, Bus
 use Rattle.evac_model.specs.declared.device_journal.DeviceAct.{DeviceAct}
 use Rattle.evac_model.specs.declared.device_journal.DeviceAct.TheVariants as acts
 use Rattle.evac_model.specs.declared.device_journal.DeviceAction.{DeviceAction}
-use Rattle.evac_model.specs.Geometry.{Sizes, block_bytes, address}
+use Rattle.evac_model.specs.Geometry.{Sizes}
+use Rattle.evac_model.specs.DeviceBlocks.{device_blocks, plugged_at_start, device_block_bytes, device_address, region_bytes}
 use Rattle.evac_model.specs.Numbers.{is_in, numbers_where, with_range, without_range}
 
 -- the number that bytes make, the lowest first
@@ -42,12 +43,12 @@ pub record DeviceState : Type 0 where
 
 -- the block that begins at an address
 abbrev pub block_at : Sizes → (addr : ℕ) → ℕ
-block_at s addr = (addr - address s 0) / block_bytes s
+block_at s addr = (addr - device_address s 0) / device_block_bytes s
 
 -- a range begins at a block, has one at least, and all its blocks are in the region
 abbrev pub is_good_range : Sizes → (addr count : ℕ) → Bool
 is_good_range s addr count =
-    nat_le (address s 0) addr && (addr - address s 0) % block_bytes s == 0 && not (count == 0) && nat_le (block_at s addr + count) s.managed
+    nat_le (device_address s 0) addr && (addr - device_address s 0) % device_block_bytes s == 0 && not (count == 0) && nat_le (block_at s addr + count) (device_blocks s)
 
 -- whether each block of a range is plugged, or none is
 abbrev pub are_plugged : List ℕ → (first n : ℕ) → Bool
@@ -65,7 +66,7 @@ range_state plugged first n = if are_plugged plugged first n then 0 else if are_
 abbrev pub plug_answer : Sizes → DeviceState → (refused : Bool) → (addr count : ℕ) → Response
 plug_answer s d refused addr count =
     if not (is_good_range s addr count) then Error
-    else if nat_lt d.requested ((length d.plugged + count) * block_bytes s) then Nack
+    else if nat_lt d.requested ((length d.plugged + count) * device_block_bytes s) then Nack
     else if not (are_unplugged d.plugged (block_at s addr) count) then Error
     else if d.migrating || refused then Busy
     else Ack 0
@@ -127,21 +128,21 @@ device_after s d (a ∷ actions) = device_after s (after_act s d a.act) actions
 
 -- the blocks of the region that aren't plugged, rising
 abbrev pub unplugged_blocks : Sizes → (plugged : List ℕ) → List ℕ
-unplugged_blocks s plugged = numbers_where (λ b. not (is_in b plugged)) s.managed
+unplugged_blocks s plugged = numbers_where (λ b. not (is_in b plugged)) (device_blocks s)
 
 -- what the configuration says: node 0, and all of the region is usable
 abbrev pub config_of : Sizes → DeviceState → Config
 config_of s d = record {
-  block_size = block_bytes s;
+  block_size = device_block_bytes s;
   node_id = 0;
-  addr = address s 0;
-  region_size = s.managed * block_bytes s;
-  usable_region_size = s.managed * block_bytes s;
-  plugged_size = length d.plugged * block_bytes s;
+  addr = device_address s 0;
+  region_size = region_bytes s;
+  usable_region_size = region_bytes s;
+  plugged_size = length d.plugged * device_block_bytes s;
   requested_size = d.requested;
 }
 
 -- the device at the start: the lowest blocks are plugged, and the host asks for as much
 abbrev pub device_at_start : Sizes → DeviceState
 device_at_start s =
-    record { plugged = range_with_len 0 s.plugged; requested = s.plugged * block_bytes s; migrating = false }
+    record { plugged = range_with_len 0 (plugged_at_start s); requested = plugged_at_start s * device_block_bytes s; migrating = false }

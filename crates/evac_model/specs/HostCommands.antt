@@ -18,6 +18,7 @@ use Rattle.evac_model.specs.declared.host.HostRun.{HostRun}
 use Rattle.evac_model.specs.declared.space.SpaceAction.{SpaceAction}
 use Rattle.evac_model.specs.declared.space.SpaceAction.TheVariants.{Online}
 use Rattle.evac_model.specs.Geometry.{Sizes}
+use Rattle.evac_model.specs.DeviceBlocks.{device_blocks}
 use Rattle.evac_model.specs.DeviceAnswer.{DeviceState, block_at, is_good_range, request_in, device_answer, device_after, config_of}
 
 -- whether a request unplugs blocks
@@ -47,10 +48,21 @@ no_blocks = record { first = 0; count = 0 }
 abbrev pub blocks_of : BlockRange → List ℕ
 blocks_of r = range_with_len r.first r.count
 
+-- the blocks of a range, where it is good
+abbrev pub range_blocks : Sizes → (addr count : ℕ) → BlockRange
+range_blocks s addr count = if is_good_range s addr count then record { first = block_at s addr; count = count } else no_blocks
+
+-- the blocks that a request names: those of its range, where it is good, and of an UNPLUG_ALL all of the region
+abbrev pub requested_blocks : Sizes → Option Request → BlockRange
+requested_blocks s None = no_blocks
+requested_blocks s (Some (Plug addr count)) = range_blocks s addr count
+requested_blocks s (Some (Unplug addr count)) = range_blocks s addr count
+requested_blocks s (Some UnplugAll) = record { first = 0; count = device_blocks s }
+requested_blocks s (Some (State addr count)) = range_blocks s addr count
+
 -- the blocks that a request plugged: those of the range, where a PLUG was acknowledged
 abbrev pub plugged_by : Sizes → Option Request → Response → BlockRange
-plugged_by s (Some (Plug addr count)) (Ack state) =
-    if is_good_range s addr count then record { first = block_at s addr; count = count } else no_blocks
+plugged_by s (Some (Plug addr count)) (Ack state) = range_blocks s addr count
 plugged_by s request response = no_blocks
 
 -- each of these blocks is put online

@@ -9,8 +9,11 @@ pub mod Numbers
 pub mod Counts
 pub mod FreeRuns
 pub mod SpaceJournal
+pub mod DeviceBlocks
 pub mod DeviceAnswer
 pub mod HostCommands
+pub mod Notices
+pub mod MappedExactly
 pub mod Examples
 pub mod Tables
 pub mod Answer

@@ -32,6 +32,10 @@ with_range first n xs = united xs (range_with_len first n)
 abbrev pub without_range : (first n : ℕ) → List ℕ → List ℕ
 without_range first n xs = filter (λ b. not (is_between first (first + n) b)) xs
 
+-- the numbers of a list, each once, rising
+abbrev pub rising : List ℕ → List ℕ
+rising xs = numbers_where (λ b. is_in b xs) (end_of xs)
+
 -- the list is rising, and each of its numbers is below the bound
 abbrev pub IsRisingBelow : (bound : ℕ) → List ℕ → Type 0
 IsRisingBelow bound xs = xs ≡ numbers_where (λ b. is_in b xs) bound

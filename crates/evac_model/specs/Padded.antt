@@ -20,3 +20,7 @@ pub padded_items : (places count : ℕ) (items : List ℕ) → IsPaddedTo places
 padded_items places count items h =
     ap (λ k. take count items ++ replicate (places - k) 0) (padded_count places count items h)
     ∙ (ap (λ ys. take count items ++ ys) (sym h.rest) ∙ take-append-drop count items)
+
+-- what is made of a number of values and of their array is made of the values again
+pub padded_back : {A : Type 0} (make : ℕ → List ℕ → A) (places count : ℕ) (items : List ℕ) → IsPaddedTo places count items → make (length (take count items)) (padded_to places (take count items)) ≡ make count items
+padded_back make places count items h = λ i. make (padded_count places count items h i) (padded_items places count items h i)

@@ -1,6 +1,6 @@
--- How the bytes of a request are kept, and that their values give them back.
-use Rattle.std.specs.Prelude.{◌≡◌, ℕ, List, length, take}
-use Rattle.evac_model.specs.Padded.{IsPaddedTo, padded_to, padded_count, padded_items}
+-- How the bytes of a request are kept, and what their values are kept as.
+use Rattle.std.specs.Prelude.{ℕ, List, length}
+use Rattle.evac_model.specs.Padded.{IsPaddedTo, padded_to}
 use Rattle.evac_model.specs.declared.request_bytes.RequestBytes.TheInside.{Inside}
 
 abbrev pub IsPadded : Inside → Type 0
@@ -8,6 +8,3 @@ IsPadded a = IsPaddedTo 64 a.count a.items
 
 abbrev pub padded : List ℕ → Inside
 padded xs = record { count = length xs; items = padded_to 64 xs }
-
-pub padded_back : (a : Inside) → IsPadded a → padded (take a.count a.items) ≡ a
-padded_back a h = λ i. record { count = padded_count 64 a.count a.items h i; items = padded_items 64 a.count a.items h i }

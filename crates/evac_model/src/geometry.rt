@@ -67,8 +67,9 @@ fn is_count(n: u32) -> bool
 }
 
 impl Geometry {
-    ghost use Rattle.std.specs.Prelude.{◌≡◌, ◌+◌, ◌-◌, ◌*◌, ◌<◌, MatchResult};
+    ghost use Rattle.std.specs.Prelude.{◌≡◌, ◌+◌, ◌-◌, ◌*◌, ◌<◌, ◌≤◌, MatchResult};
     ghost use Rattle.evac_model.specs.Geometry.{Sizes, IsWithinLimits, BreaksFirst, block_bytes, address, first_frame, frame_count};
+    ghost use Rattle.evac_model.specs.DeviceBlocks.{device_blocks, plugged_at_start, device_block_bytes, device_address, region_bytes};
 
     /// The machine with these sizes, or the first limit that they break.
     pub fn new(
@@ -195,5 +196,44 @@ impl Geometry {
     {
         let first = (self.boot + b.0) * self.block;
         (FrameNo(first), FrameNo(first + (self.block - 1)))
+    }
+
+    /// The blocks that the memory device of the machine plugs and unplugs, at least 1. They lie in the
+    /// managed region, and each is a managed block.
+    pub fn device_blocks(&self) -> u32
+        ensures size { result ≡ device_blocks self.now }
+        ensures within { IsWithinLimits self.now }
+    {
+        self.managed
+    }
+
+    /// Device blocks plugged at the start: those from 0 on.
+    pub fn plugged_at_start(&self) -> u32
+        ensures size { result ≡ plugged_at_start self.now }
+        ensures most { plugged_at_start self.now ≤ device_blocks self.now }
+    {
+        self.plugged
+    }
+
+    /// The bytes of a device block.
+    pub fn device_block_bytes(&self) -> u64
+        ensures { result ≡ device_block_bytes self.now }
+    {
+        self.block_bytes()
+    }
+
+    /// The first byte of a device block; that of number 0 is the first of the managed region.
+    pub fn device_address(&self, b: BlockNo) -> u64
+        requires { b.0 < device_blocks self.now }
+        ensures { result ≡ device_address self.now b.0 }
+    {
+        self.address(b)
+    }
+
+    /// The bytes of the managed region.
+    pub fn region_bytes(&self) -> u64
+        ensures { result ≡ region_bytes self.now }
+    {
+        self.device_blocks() as u64 * self.device_block_bytes()
     }
 }

@@ -4,7 +4,7 @@
 ghost use Rattle.std.specs.Prelude.{◌≡◌, ◌↔◌, ℕ, Bool, true, nat_lt, ◌&&◌, ◌++◌, ◌∷◌, [], List, Contains, Option, None, Some, IfSome, length};
 ghost use Rattle.std.specs.List.{slice_get, AllByRecursion};
 ghost use Rattle.std.specs.List.Sorted.{IsStrictlyIncreasing};
-ghost use Rattle.evac_model.specs.Numbers.{numbers_where, is_in};
+ghost use Rattle.evac_model.specs.Numbers.{numbers_where, is_in, rising};
 ghost use Rattle.evac_model.specs.declared.call.Call.{Call};
 ghost use Rattle.evac_model.specs.declared.entry.Entry.{Entry};
 ghost use Rattle.evac_model.specs.declared.scenario.StartPage.{StartPage};
@@ -52,6 +52,12 @@ pub fn numbers_that_pass()
 /// `is_in` says whether a number is one of a list's.
 pub fn is_in_contains()
     ensures { (xs : List ℕ) (b : ℕ) → (is_in b xs ≡ true) ↔ Contains xs b }
+{}
+
+/// The numbers of a list, each once and rising, are those of the list: so a call is listed just where
+/// the list that was handed over has its number.
+pub fn rising_contains()
+    ensures { (xs : List ℕ) (b : ℕ) → Contains (rising xs) b ↔ Contains xs b }
 {}
 
 /// The free runs of a small machine, worked out by hand, and which are chosen.

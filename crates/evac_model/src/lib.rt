@@ -33,7 +33,7 @@ pub use host::{CommandList, HostCommand, HostLine, HostResult, HostRun, HostRunL
 pub use laws::{
     answers_of_a_small_machine, is_in_contains, lease_counts_for_alloc_alone,
     leases_of_a_small_machine, legal_push, legal_tickets, numbers_that_pass, pages_stay_in_size,
-    pairings_of_a_small_machine, refusal_changes_nothing, runs_of_a_small_machine,
+    pairings_of_a_small_machine, refusal_changes_nothing, rising_contains, runs_of_a_small_machine,
 };
 pub use list::{BlockList, ByteList, Listed, NumberList, first_node};
 pub use names::{BlockNo, FrameNo, Kind, OutOfMemory, PageNo};

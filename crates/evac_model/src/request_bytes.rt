@@ -15,7 +15,8 @@ impl Model for RequestBytes {
 
     ghost Value = { List ℕ };
 
-    ghost use Rattle.evac_model.specs.RequestBytesInside.{IsPadded, padded, padded_back};
+    ghost use Rattle.evac_model.specs.Padded.{padded_back};
+    ghost use Rattle.evac_model.specs.RequestBytesInside.{IsPadded, padded};
 
     ghost view = { λ a. take a.count a.items };
 
@@ -23,7 +24,7 @@ impl Model for RequestBytes {
 
     ghost inverse = { padded };
 
-    ghost inverse_ok = { padded_back };
+    ghost inverse_ok = { λ a h. padded_back (λ n xs. record { count = n; items = xs }) 64 a.count a.items h };
 }
 
 impl RequestBytes {

@@ -2,7 +2,8 @@
 
 use crate::numbers;
 use evac_io::{
-    ByteList, Failed, MemSink, MemSource, ReadAllFault, SureSink, SureSource, read_all, write_all,
+    ByteList, Failed, MemSink, MemSource, ReadAllFault, Source, SureSink, SureSource, read_all,
+    write_all,
 };
 use std::alloc::{AllocError, Global};
 use std::test::Fail;
@@ -47,6 +48,30 @@ fn a_listed_read_fails(rt: HostRuntime) -> Result<(), Fail> {
         let mut source = MemSource::new(text(alloc)?, numbers(alloc, &[9, fails])?);
         let got = read_all(alloc, &mut source, 11).map(|bytes| bytes.len());
         assert_eq!(rt; got, want, "at {fails}");
+    }
+    Ok(())
+}
+
+#[test]
+fn calls_are_listed_in_any_order_and_again(rt: HostRuntime) -> Result<(), Fail> {
+    let alloc = rt.alloc();
+    // The calls 1, 3 and 4 fail, and 0 is the number of no call.
+    let lists = [[1, 3, 4, 9, 9, 9], [4, 3, 9, 1, 0, 0], [3, 1, 3, 4, 1, 3]];
+    let want = [
+        Err(Failed),
+        Ok(4),
+        Err(Failed),
+        Err(Failed),
+        Ok(4),
+        Ok(3),
+        Ok(0),
+    ];
+    for fails in lists {
+        let mut source = MemSource::new(text(alloc)?, numbers(alloc, &fails)?);
+        for got in want {
+            let mut piece = [0; 4];
+            assert_eq!(rt; source.read(&mut piece), got, "of {fails:?}");
+        }
     }
     Ok(())
 }

@@ -14,9 +14,9 @@ invariant_of-result c =
     subst (λ (ws : List ℕ). IsKept c.args.g ws c.set_bits-count.result)
     (sym (with_items_is c.in_ok-words.words after (omega (arith, c.set_bits-count.auto.words, c.deref_mut.ensures.len))))
     (record {
-      within = c.managed.ensures.within;
-      room = omega (arith, c.set_bits-count.auto.words, c.deref_mut.ensures.len, c.in_ok-words.ensures.len, c.managed.ensures.size);
-      counted = start_count c.deref_mut.result.now after _ c.args.g.managed c.set_bits-count.result zeros (c.set_bits-count.ensures.changed c.args.g.managed (omega (arith, c.plugged.ensures.size, c.managed.ensures.within.plugged)));
+      within = c.device_blocks.ensures.within;
+      room = omega (arith, c.set_bits-count.auto.words, c.deref_mut.ensures.len, c.in_ok-words.ensures.len, c.device_blocks.ensures.size);
+      counted = start_count c.deref_mut.result.now after _ c.args.g.managed c.set_bits-count.result zeros (c.set_bits-count.ensures.changed c.args.g.managed (omega (arith, c.plugged_at_start.ensures.size, c.plugged_at_start.ensures.most)));
     })
 
 pub returns-clause-plugged : goal.returns-clause-plugged
@@ -24,5 +24,5 @@ returns-clause-plugged c =
     let after = c.set_bits-count.new.words in
     let zeros = c.deref_mut.ensures.value ∙ c.in_ok-words.ensures.items_if_clones_equal (λ y e. e) in
     ap (λ (ws : List ℕ). numbers_where (has_bit ws) c.args.g.managed) (with_items_is c.in_ok-words.words after (omega (arith, c.set_bits-count.auto.words, c.deref_mut.ensures.len)))
-    ∙ start_plugged c.deref_mut.result.now after _ c.plugged.result c.args.g.managed zeros (omega (arith, c.plugged.ensures.size, c.managed.ensures.within.plugged)) c.set_bits-count.ensures.bits
-    ∙ ap (range_with_len 0) c.plugged.ensures.size
+    ∙ start_plugged c.deref_mut.result.now after _ c.plugged_at_start.result c.args.g.managed zeros (omega (arith, c.plugged_at_start.ensures.size, c.plugged_at_start.ensures.most)) c.set_bits-count.ensures.bits
+    ∙ ap (range_with_len 0) c.plugged_at_start.ensures.size

@@ -7,12 +7,9 @@ use Rattle.buddy.specs.FreeFrames.{FreeFrames}
 use Rattle.buddy.specs.Parts.{replaced}
 use Rattle.buddy.specs.RunsInside.{flag, frames_of, IsKept}
 use Rattle.buddy.proofs.FrameValues.{kept_in}
-use Rattle.buddy.proofs.Blocks.{block_in_managed, block_in_all, AreMoved, moved_back, back_kept, back_value}
+use Rattle.buddy.proofs.Blocks.{boot_of, block_in_managed, block_in_all, AreMoved, moved_back, back_kept, back_value}
 use Rattle.buddy.proofs.runs.Runs.restore.Goals as goal
 use Rattle.buddy.proofs.runs.Runs.restore.Goals.{After-block, After-block_order-order, After-put_back}
-
-base : (c : After-block_order-order) → c.boot_frames-first.result ≡ c.self.inside.geometry.boot * c.self.inside.geometry.block
-base c = c.boot_frames-first.ensures.frames ∙ sym (ap (λ (v : FreeFrames). v.sizes.boot * v.sizes.block) c.self.view_is)
 
 -- the block is a managed one, and withdrawn
 flagged : (c : After-block) → (c.args.b.0 < c.self.inside.geometry.managed) × (flag c.self.inside.withdrawn.items c.args.b.0 ≡ true)
@@ -26,7 +23,7 @@ overflow_mul-place c =
 pub overflow_add-first : goal.overflow_add-first
 overflow_add-first c =
     let d = (goal.at.overflow_add-first c).After-block in
-    omega (arith, block_in_all c.self.inside.geometry c.args.b.0 c.self.inside.geometry.block (flagged d).0 refl, c.self.invariant.within.frames, ap (λ (n : ℕ). c.args.b.0 * n) c.block.ensures.size, base (goal.at.overflow_add-first c).After-block_order-order)
+    omega (arith, block_in_all c.self.inside.geometry c.args.b.0 c.self.inside.geometry.block (flagged d).0 refl, c.self.invariant.within.frames, ap (λ (n : ℕ). c.args.b.0 * n) c.block.ensures.size, boot_of c.self.view_is c.boot_frames-first.ensures.frames)
 
 pub put_back-requires-clause-place : goal.put_back-requires-clause-place
 put_back-requires-clause-place c =
@@ -40,7 +37,7 @@ put_back-requires-clause-in_tree c =
 pub put_back-requires-clause-inside : goal.put_back-requires-clause-inside
 put_back-requires-clause-inside c =
     let d = (goal.at.put_back-requires-clause-inside c).After-block in
-    omega (arith, block_in_all c.self.inside.geometry c.args.b.0 (2 ^ c.block_order-order.result) (flagged d).0 c.block_order-order.ensures.block, c.self.invariant.aside_length, ap (λ (xs : List Bool). length xs) c.deref_mut.ensures.value, ap (λ (n : ℕ). c.args.b.0 * n) c.block.ensures.size, base (goal.at.put_back-requires-clause-inside c).After-block_order-order)
+    omega (arith, block_in_all c.self.inside.geometry c.args.b.0 (2 ^ c.block_order-order.result) (flagged d).0 c.block_order-order.ensures.block, c.self.invariant.aside_length, ap (λ (xs : List Bool). length xs) c.deref_mut.ensures.value, ap (λ (n : ℕ). c.args.b.0 * n) c.block.ensures.size, boot_of c.self.view_is c.boot_frames-first.ensures.frames)
 
 pub index_mut-requires : goal.index_mut-requires
 index_mut-requires c = omega (arith, (flagged (goal.at.index_mut-requires c).After-block).0, c.self.invariant.withdrawn_length)
@@ -63,7 +60,7 @@ invariant_of-self c =
     subst (λ (xs : List Bool). IsKept c.self.inside.geometry c.self.inside.boot c.put_back.new.tree xs (set c.self.inside.withdrawn.items c.args.b.0 false))
     (sym (with_items_is c.self.inside.aside c.put_back.new.aside (omega (arith, c.put_back.auto.aside, c.deref_mut.ensures.len))))
     (back_kept c.self.inside.geometry c.self.inside.boot c.self.inside.managed c.put_back.new.tree c.self.inside.aside.items c.put_back.new.aside c.self.inside.withdrawn.items c.args.b.0 c.self.invariant inside
-    (moved (goal.at.invariant_of-self c).After-put_back (base (goal.at.invariant_of-self c).After-block_order-order) inside))
+    (moved (goal.at.invariant_of-self c).After-put_back (boot_of c.self.view_is c.boot_frames-first.ensures.frames) inside))
 
 pub returns : goal.returns
 returns c =
@@ -71,4 +68,4 @@ returns c =
     ap (λ (xs : List Bool). frames_of c.self.inside.geometry c.self.inside.online c.self.inside.boot c.put_back.new.tree xs (set c.self.inside.withdrawn.items c.args.b.0 false))
     (with_items_is c.self.inside.aside c.put_back.new.aside (omega (arith, c.put_back.auto.aside, c.deref_mut.ensures.len)))
     ∙ back_value c.self.inside.geometry c.self.inside.online c.self.inside.boot c.self.inside.managed c.put_back.new.tree c.self.inside.aside.items c.put_back.new.aside c.self.inside.withdrawn.items c.args.self.now c.args.b.0 c.self.invariant c.self.view_is f.0 f.1
-    (moved (goal.at.returns c).After-put_back (base (goal.at.returns c).After-block_order-order) f.0)
+    (moved (goal.at.returns c).After-put_back (boot_of c.self.view_is c.boot_frames-first.ensures.frames) f.0)

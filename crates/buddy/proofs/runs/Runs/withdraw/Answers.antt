@@ -8,12 +8,9 @@ use Rattle.buddy.specs.FreeFrames.{FreeFrames}
 use Rattle.buddy.specs.Parts.{replaced}
 use Rattle.buddy.specs.RunsInside.{flag, is_free, frames_of, IsKept}
 use Rattle.buddy.proofs.Powers.{le_from_pow}
-use Rattle.buddy.proofs.Blocks.{AreMoved, moved_aside, aside_kept, aside_value}
+use Rattle.buddy.proofs.Blocks.{boot_of, AreMoved, moved_aside, aside_kept, aside_value}
 use Rattle.buddy.proofs.runs.Runs.withdraw.Goals as goal
 use Rattle.buddy.proofs.runs.Runs.withdraw.Goals.{After-block_order-order, After-put_aside}
-
-base : (c : After-block_order-order) → c.boot_frames-first.result ≡ c.self.inside.geometry.boot * c.self.inside.geometry.block
-base c = c.boot_frames-first.ensures.frames ∙ sym (ap (λ (v : FreeFrames). v.sizes.boot * v.sizes.block) c.self.view_is)
 
 within : (c : After-block_order-order) → c.args.b.0 < c.self.inside.geometry.managed
 within c = subst (λ (v : FreeFrames). c.args.b.0 < v.sizes.managed) (sym c.self.view_is) c.requires.managed
@@ -46,7 +43,7 @@ invariant_of-self c =
     subst (λ (xs : List Bool). IsKept c.self.inside.geometry c.self.inside.boot c.put_aside.new.tree xs (set c.self.inside.withdrawn.items c.args.b.0 true))
     (sym (with_items_is c.self.inside.aside c.put_aside.new.aside (omega (arith, c.put_aside.auto.aside, c.deref_mut.ensures.len))))
     (aside_kept c.self.inside.geometry c.self.inside.boot c.self.inside.managed c.put_aside.new.tree c.self.inside.aside.items c.put_aside.new.aside c.self.inside.withdrawn.items c.args.b.0 c.self.invariant (within d)
-    (moved (goal.at.invariant_of-self c).After-put_aside (base d) (within d)))
+    (moved (goal.at.invariant_of-self c).After-put_aside (boot_of c.self.view_is c.boot_frames-first.ensures.frames) (within d)))
 
 pub returns : goal.returns
 returns c =
@@ -54,4 +51,4 @@ returns c =
     ap (λ (xs : List Bool). frames_of c.self.inside.geometry c.self.inside.online c.self.inside.boot c.put_aside.new.tree xs (set c.self.inside.withdrawn.items c.args.b.0 true))
     (with_items_is c.self.inside.aside c.put_aside.new.aside (omega (arith, c.put_aside.auto.aside, c.deref_mut.ensures.len)))
     ∙ aside_value c.self.inside.geometry c.self.inside.online c.self.inside.boot c.self.inside.managed c.put_aside.new.tree c.self.inside.aside.items c.put_aside.new.aside c.self.inside.withdrawn.items c.args.self.now c.args.b.0 c.self.invariant c.self.view_is (within d) (present d)
-    (moved (goal.at.returns c).After-put_aside (base d) (within d))
+    (moved (goal.at.returns c).After-put_aside (boot_of c.self.view_is c.boot_frames-first.ensures.frames) (within d))

@@ -2,15 +2,14 @@ use Rattle.std.proofs.Common.{◌≡◌, ℕ, ◌+◌, ◌-◌, ◌*◌, ◌%◌
 use Rattle.std.proofs.lemmas.List.{length-take-le, length-drop, take_rest, take-append-drop}
 use Rattle.std.specs.Box.{with_value}
 use Rattle.buddy.specs.Parts.{Part}
-use Rattle.buddy.specs.TreeInside.{orders_of}
 use Rattle.buddy.specs.TreeNode.{IsHalf}
 use Rattle.buddy.proofs.Nodes.{shift_one_64, joined_node}
-use Rattle.buddy.proofs.Changes.{split, AreSplit, filled_half, filled_part, half_frames}
+use Rattle.buddy.proofs.Changes.{split, AreSplit, joined_bits, filled_half, filled_part, half_frames}
 use Rattle.buddy.proofs.tree.Tree.+fill_all.Goals as goal
 use Rattle.buddy.proofs.tree.Tree.+fill_all.Goals.{After-joined-self-inside}
 
 at_start : (t : ℕ) (c : After-joined-self-inside t) → AreSplit c.self.inside.top c.self.inside.order c.self.inside.orders c.args.self.now.free c.in-Two.low.value c.in-Two.high.value
-at_start t c = split c.self.inside.top c.self.inside.order c.self.inside.orders c.self.inside.halves c.args.self.now c.in-Two.low c.in-Two.high c.self.view_is c.self.invariant c.in-Two.is
+at_start t c = split c.self.view_is c.self.invariant c.in-Two.is
 
 -- there is a flag for each frame
 enough : (t : ℕ) (c : After-joined-self-inside t) → length c.args.flags.now ≡ 2 ^ (c.self.inside.order - 1) + 2 ^ (c.self.inside.order - 1)
@@ -40,11 +39,6 @@ high_half t c =
     filled_half c.self.inside.top c.self.inside.order c.in-Two.high.value c.fill_all-in-Two.new.self (drop (2 ^ (c.self.inside.order - 1)) c.args.flags.now) (at_start t c).is_high
     (omega (arith, length-drop (2 ^ (c.self.inside.order - 1)) c.args.flags.now, enough t c)) (back t c)
 
-bits : (t : ℕ) (c : After-joined-self-inside t) → c.joined-self-inside.result ≡ orders_of c.self.inside.top c.self.inside.order (c.fill_all.new.self.free ++ c.fill_all-in-Two.new.self.free)
-bits t c = c.joined-self-inside.ensures
-    ∙ ap (λ (p : Part). orders_of c.self.inside.top c.self.inside.order (p.free ++ c.deref-in-Two.result.now.free)) c.deref.ensures
-    ∙ ap (λ (p : Part). orders_of c.self.inside.top c.self.inside.order (c.fill_all.new.self.free ++ p.free)) c.deref-in-Two.ensures
-
 all_flags : (t : ℕ) (c : After-joined-self-inside t) → c.fill_all.new.self.free ++ c.fill_all-in-Two.new.self.free ≡ c.args.flags.now
 all_flags t c =
     ap (λ (p : Part). p.free ++ c.fill_all-in-Two.new.self.free) (front t c)
@@ -54,9 +48,9 @@ all_flags t c =
 pub invariant_of-self-in-Two : goal.invariant_of-self-in-Two
 invariant_of-self-in-Two t c =
     let d = (goal.at.invariant_of-self-in-Two t c).After-joined-self-inside in
-    joined_node c.self.inside.top c.self.inside.order c.joined-self-inside.result (with_value c.in-Two.low c.fill_all.new.self) (with_value c.in-Two.high c.fill_all-in-Two.new.self) c.self.invariant.small (low_half t d) (high_half t d) (bits t d)
+    joined_node c.self.inside.top c.self.inside.order c.joined-self-inside.result (with_value c.in-Two.low c.fill_all.new.self) (with_value c.in-Two.high c.fill_all-in-Two.new.self) c.self.invariant.small (low_half t d) (high_half t d) (joined_bits c.self.inside.top c.self.inside.order d.joined-self-inside.ensures d.deref.ensures d.deref-in-Two.ensures)
 
 pub returns-in-Two : goal.returns-in-Two
 returns-in-Two t c =
     let d = (goal.at.returns-in-Two t c).After-joined-self-inside in
-    filled_part c.self.inside.top c.self.inside.order c.self.inside.orders c.joined-self-inside.result c.self.inside.halves c.args.flags.now c.args.self.now (with_value c.in-Two.low c.fill_all.new.self) (with_value c.in-Two.high c.fill_all-in-Two.new.self) c.self.view_is (low_half t d) (high_half t d) (all_flags t d) (bits t d)
+    filled_part c.self.inside.top c.self.inside.order c.self.inside.orders c.joined-self-inside.result c.self.inside.halves c.args.flags.now c.args.self.now (with_value c.in-Two.low c.fill_all.new.self) (with_value c.in-Two.high c.fill_all-in-Two.new.self) c.self.view_is (low_half t d) (high_half t d) (all_flags t d) (joined_bits c.self.inside.top c.self.inside.order d.joined-self-inside.ensures d.deref.ensures d.deref-in-Two.ensures)

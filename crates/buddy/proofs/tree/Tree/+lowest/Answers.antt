@@ -6,7 +6,7 @@ use Rattle.buddy.specs.Parts.{Part, lowest_run}
 use Rattle.buddy.specs.TreeInside.{flags}
 use Rattle.buddy.proofs.Powers.{pow_le}
 use Rattle.buddy.proofs.Nodes.{node_bits, shift_one, half_order}
-use Rattle.buddy.proofs.Changes.{split, AreSplit}
+use Rattle.buddy.proofs.Changes.{split}
 use Rattle.buddy.proofs.Lowest.{none_there, own_there, not_alike, lowest_of_halves, lowest_run-place}
 use Rattle.buddy.proofs.tree.Tree.+lowest.Goals as goal
 use Rattle.buddy.proofs.tree.Tree.+lowest.Goals.{In-Two}
@@ -24,13 +24,10 @@ returns-then-wanted-self t c =
     (λ z. c.if-self-wanted-eq0.false (shr_and_one c.self.inside.orders c.args.wanted ∙ z))
     (c.if-wanted-self.true ∙ ap (λ (p : Part). p.order) c.self.view_is)
 
-halves : (t : ℕ) (c : In-Two t) → AreSplit c.self.inside.top c.self.inside.order c.self.inside.orders c.args.self.now.free c.in-Two.low.value c.in-Two.high.value
-halves t c = split c.self.inside.top c.self.inside.order c.self.inside.orders c.self.inside.halves c.args.self.now c.in-Two.low c.in-Two.high c.self.view_is c.self.invariant c.in-Two.is
-
 -- the lowest run is that of the low half, or else that of the high one
 in_two : (t : ℕ) (c : In-Two t) → lowest_run c.args.self.now.top c.args.self.now.order c.args.self.now.free c.args.wanted ≡ option_or (lowest_run c.in-Two.low.value.top c.in-Two.low.value.order c.in-Two.low.value.free c.args.wanted) (option_map (λ place. 2 ^ (c.self.inside.order - 1) + place) (lowest_run c.in-Two.high.value.top c.in-Two.high.value.order c.in-Two.high.value.free c.args.wanted))
 in_two t c =
-    let h = halves t c in
+    let h = split c.self.view_is c.self.invariant c.in-Two.is in
     let set : bit_at c.self.inside.orders c.args.wanted ≢ 0 = λ z. c.if-self-wanted-eq0.false (shr_and_one c.self.inside.orders c.args.wanted ∙ z) in
     sym (ap (λ (p : Part). lowest_run p.top p.order c.args.self.now.free c.args.wanted) c.self.view_is)
     ∙ lowest_of_halves c.self.inside.top c.self.inside.order c.self.inside.orders c.args.wanted c.args.self.now.free c.in-Two.low.value c.in-Two.high.value h.is_low h.is_high
@@ -58,7 +55,8 @@ returns-in_err-place-in-Two t c =
 
 pub overflow_add-result : goal.overflow_add-result
 overflow_add-result t c =
-    let h = halves t (goal.at.overflow_add-result t c).In-Two in
+    let d = (goal.at.overflow_add-result t c).In-Two in
+    let h = split d.self.view_is d.self.invariant d.in-Two.is in
     let place = lowest_run-place c.deref-in-Two.result.now.top c.deref-in-Two.result.now.order c.deref-in-Two.result.now.free c.args.wanted c.in_ok-place-in-Two.place (sym c.lowest-in-Two.ensures ∙ c.in_ok-place-in-Two.was) in
     let order : c.deref-in-Two.result.now.order ≡ c.self.inside.order - 1 = ap (λ (p : Part). p.order) c.deref-in-Two.ensures ∙ half_order c.self.inside.top c.self.inside.order c.in-Two.high.value h.is_high in
     let half = shift_one (c.self.inside.order - 1) (omega (arith, c.self.invariant.small)) in
