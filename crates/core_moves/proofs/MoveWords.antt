@@ -1,7 +1,6 @@
 -- What is read of the word of a held page after a step on its mapping.
-use Rattle.std.proofs.Common.{◌≡◌, ℕ, eqb, cond, Bool, true, false, ne_eqb, ◌+◌, ◌*◌, ◌/◌, ◌%◌, ◌<◌, ◌≢◌, ap, ◌∙◌, refl, arith}
-use mathlib.Core.Logic.{dite}
-use native.Mathlib.Decide.{ℕ_discrete}
+use Rattle.std.proofs.Common.{◌≡◌, ℕ, eqb, true, false, ◌+◌, ◌*◌, ◌/◌, ◌%◌, ◌<◌, ◌≢◌, ap, ◌∙◌, refl, arith}
+use Rattle.std.proofs.lemmas.Grind.{common_steps}
 use Rattle.evac_model.specs.declared.names.Kind.{Kind}
 use Rattle.evac_model.specs.Page.{kind_of}
 use Rattle.evac_words.specs.Word.{taken_bit, moving_bit, mapped_bit, unmovable_bit, pins_of, frame_of, bound_of}
@@ -12,15 +11,10 @@ use Rattle.core_state.proofs.EntryWords.{unmovable_for-fits, kind_of-unmovable_f
 -- ---- which frame a word maps
 
 pub maps_to-unmapped : (f w : ℕ) → mapped_bit w ≡ 0 → maps_to f w ≡ 0
-maps_to-unmapped f w e = ap (λ (b : Bool). cond b (cond (eqb (frame_of w) f) 1 0) 0) (ne_eqb (mapped_bit w) 1 (λ q. absurd (omega arith)))
+maps_to-unmapped f w e = grind (arith, common_steps)
 
 pub maps_to-other : (f w : ℕ) → frame_of w ≢ f → maps_to f w ≡ 0
-maps_to-other f w ne = dite (ℕ_discrete (mapped_bit w) 1)
-    (λ on. ap (λ (b : Bool). cond (eqb (mapped_bit w) 1) (cond b 1 0) 0) (ne_eqb (frame_of w) f ne) ∙ by_bit (eqb (mapped_bit w) 1))
-    (λ off. maps_to-unmapped f w (omega arith)) where
-      by_bit : (b : Bool) → cond {A = ℕ} b 0 0 ≡ 0
-      by_bit true = refl
-      by_bit false = refl
+maps_to-other f w ne = grind (arith, common_steps)
 
 -- ---- moving
 

@@ -2,6 +2,7 @@
 use Rattle.std.proofs.Common.{◌≡◌, ℕ, eqb, ◌<◌, List, length, get_or, set, replicate, sym, refl, ap, ◌∙◌, subst, arith, Option, Some, None}
 use Rattle.std.proofs.lemmas.Option.{same_Some}
 use Rattle.std.proofs.lemmas.List.{ext_get_or, get_or-replicate, length-replicate}
+use Rattle.std.proofs.lemmas.Grind.{common_steps}
 use mathlib.Core.Logic.{dite}
 use native.Mathlib.Decide.{ℕ_discrete}
 use Rattle.evac_model.specs.declared.names.Kind.{Kind}
@@ -10,7 +11,7 @@ use Rattle.evac_words.specs.Word.{mapped_bit, unmovable_bit, pins_of, frame_of}
 use Rattle.evac_words.specs.Table.{entry_index}
 use Rattle.core_state.specs.declared.hand.HandFrame.{HandFrame}
 use Rattle.core_state.specs.declared.held.Change.{Change}
-use Rattle.core_state.specs.declared.held.Change.TheVariants.{Kept, Moved, Mapped, Unmapped}
+use Rattle.core_state.specs.declared.held.Change.TheVariants.{Kept}
 use Rattle.core_state.specs.declared.held.Held.{Held}
 use Rattle.core_state.specs.declared.keeper.Keeper.{Keeper}
 use Rattle.core_state.specs.declared.opening.Opening.{Opening}
@@ -20,7 +21,7 @@ use Rattle.core_state.specs.declared.view.View.{View}
 use Rattle.core_state.specs.Words.{cells_of_frame, moving_word, remapped_word, mapped_word}
 use Rattle.core_state.specs.Views.{IsSeated, Has, holds_page, hand_frame}
 use Rattle.core_state.specs.Parts.{Shaped, Turn, Tickets, Bounds}
-use Rattle.core_state.specs.Pages.{page_now, Flagged, page_cells, Shows, number_or, patched, Agrees, mapped_as, with_stores, left_as, HeldShows, FreeShows, Pages}
+use Rattle.core_state.specs.Pages.{page_now, Flagged, page_cells, Shows, patched, Agrees, mapped_as, with_stores, left_as, HeldShows, FreeShows, Pages}
 use Rattle.core_state.specs.Frames.{Frames}
 use Rattle.core_state.specs.MoveSteps.{or_known, IsCopied, moved, MayBegin, MayRemap, MayMap, MayUnmap, InHand, AllowedMove}
 use Rattle.core_state.specs.Stepped.{words_after_move}
@@ -103,23 +104,14 @@ map_shows o words v h m frame kind sized low clear old = let w = old.word in rec
 -- ---- remap
 
 moved-changes : (c : Change) → moved c ≡ Kept → ⊥
-moved-changes Kept e = absurd (cc)
-moved-changes Moved e = absurd (cc)
-moved-changes (Mapped kind) e = absurd (cc)
-moved-changes Unmapped e = absurd (cc)
+moved-changes c e = grind (arith, common_steps)
 
 mapped_as-moved : (n : ℕ) (c : Change) (m : Page) → mapped_as n (moved c) m ≡ mapped_as n c m
-mapped_as-moved n Kept m = refl
-mapped_as-moved n Moved m = refl
-mapped_as-moved n (Mapped kind) m = refl
-mapped_as-moved n Unmapped m = refl
+mapped_as-moved n c m = grind (arith, common_steps)
 
 -- a cell has what the holder knows of it
 known_is : (stores loads : List (Option ℕ)) (base : List ℕ) (c x : ℕ) → c < length base → Agrees loads base → or_known (get_or stores c None) (get_or loads c None) ≡ Some x → get_or (patched stores base) c 0 ≡ x
-known_is stores loads base c x lt agrees e = get_or-patched stores base c lt ∙ here (get_or stores c None) e where
-  here : (m : Option ℕ) → or_known m (get_or loads c None) ≡ Some x → number_or m (get_or base c 0) ≡ x
-  here None q = agrees c x (known_at loads c x q)
-  here (Some y) q = same_Some y x q
+known_is stores loads base c x lt agrees e = grind (arith, common_steps, get_or-patched stores base c lt, known_at loads c x, agrees c x)
 
 -- the cells of the frame that has each value of the held page
 copied_cells : (o : Opening) (words : List ℕ) (h : Held) (x : HandFrame) (frame : ℕ) (m : Page) → mapped_bit h.word ≡ 1 → length (page_cells o.cells m) ≡ o.cells → length (cells_of_frame o words frame) ≡ o.cells → IsCopied o h x → Agrees x.stores (cells_of_frame o words frame) → HeldShows o words h m

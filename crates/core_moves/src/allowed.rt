@@ -129,7 +129,8 @@ fn is_allowed(o: &Opening, v: &View, step: &MoveStep) -> bool
 }
 
 /// Whether the step on the mapping of the held page is one that the seat may make now. It takes no
-/// memory, and its time is at most that of the cells of one page.
+/// memory, and its time is at most that of the cells of one page and of the frames that the seat has
+/// unmarked.
 pub fn may_move(core: &Core, seat: u32, step: MoveStep) -> bool
     requires seat { seat < length core.now.snapshot.views }
     ensures { IsTrue result ↔ AllowedMove OneOwner core.now.opening (view_of core.now.snapshot.views seat) step }

@@ -1,6 +1,7 @@
 -- The cells of a frame after one cell was written.
-use Rattle.std.proofs.Common.{◌≡◌, ℕ, suc, ◌+◌, ◌-◌, ◌*◌, ◌<◌, ◌≤◌, ◌≢◌, List, length, get_or, get_or-set_other, set, take, drop, sym, ap, ◌∙◌, arith, suc-mul, mul-le-mul_right, Some}
+use Rattle.std.proofs.Common.{◌≡◌, ℕ, ◌+◌, ◌-◌, ◌*◌, ◌<◌, ◌≢◌, List, length, get_or, get_or-set_other, set, take, drop, sym, ap, ◌∙◌, arith, Some}
 use Rattle.std.proofs.lemmas.List.{drop-set-lt, drop-set-add, take-set-le, get_or-take, get_or-drop, length-take, length-drop}
+use Rattle.std.proofs.lemmas.Nat.{row_fits}
 use Rattle.std.proofs.Math.Seq.{take-set-lt}
 use Rattle.std.proofs.lemmas.Option.{slice_get-get_or}
 use Rattle.std.specs.List.{slice_get}
@@ -11,9 +12,6 @@ use Rattle.core_state.specs.declared.opening.Opening.{Opening}
 use Rattle.core_state.specs.Words.{next_ticket_of, entry_word_of, dirty_word_of, cells_of_frame}
 use Rattle.core_state.specs.Parts.{Shaped}
 use Rattle.core_state.specs.Frames.{all_entry_words}
-
-rows_apart : (n f g : ℕ) → f < g → f * n + n ≤ g * n
-rows_apart n f g lt = let a : suc f * n ≤ g * n = mul-le-mul_right n lt in omega (arith, suc-mul f n)
 
 module _ (o : Opening) (words : List ℕ) (f c x : ℕ) (lt : c < o.cells) where
   -- the frame's own cells
@@ -27,8 +25,8 @@ module _ (o : Opening) (words : List ℕ) (f c x : ℕ) (lt : c < o.cells) where
   -- the cells of another frame
   pub cells_of_frame-other : (g : ℕ) → g ≢ f → cells_of_frame o (set words (cell_index o.pages o.frames o.cells f c) x) g ≡ cells_of_frame o words g
   cells_of_frame-other g ne = dite (dec_le f g)
-      (λ le. ap (λ (l : List ℕ). take o.cells l) (drop-set-lt (cell_index o.pages o.frames o.cells g 0) words (cell_index o.pages o.frames o.cells f c) x (let a = rows_apart o.cells f g (omega arith) in omega arith)))
-      (λ no. let a = rows_apart o.cells g f (omega arith) in
+      (λ le. ap (λ (l : List ℕ). take o.cells l) (drop-set-lt (cell_index o.pages o.frames o.cells g 0) words (cell_index o.pages o.frames o.cells f c) x (let a = row_fits f o.cells g o.cells (omega arith) (omega arith) in omega arith)))
+      (λ no. let a = row_fits g o.cells f o.cells (omega arith) (omega arith) in
       let q : cell_index o.pages o.frames o.cells f c ≡ cell_index o.pages o.frames o.cells g 0 + (cell_index o.pages o.frames o.cells f c - cell_index o.pages o.frames o.cells g 0) = omega arith in
       ap (λ (j : ℕ). cells_of_frame o (set words j x) g) q
       ∙ ap (λ (l : List ℕ). take o.cells l) (drop-set-add (cell_index o.pages o.frames o.cells g 0) words (cell_index o.pages o.frames o.cells f c - cell_index o.pages o.frames o.cells g 0) x)

@@ -6,7 +6,11 @@ use Rattle.std.proofs.Math.Seq.{get_or-append_right}
 use Rattle.std.proofs.lemmas.List.Sums.{sum_by-cons, sum_by-append}
 use Rattle.std.proofs.lemmas.Map.Keys.{IsDistinct-head, IsDistinct-tail}
 use Rattle.std.proofs.lemmas.Option.{same_Some, none-some}
-use Rattle.std.specs.List.{AllByRecursion, IsDistinct, sum_by}
+use Rattle.std.proofs.lemmas.Bool.{eqb-false}
+use Rattle.std.proofs.lemmas.Nat.{row_fits}
+use Rattle.std.proofs.lemmas.List.Elements.{All-append, All-replicate, All-set}
+use Rattle.std.proofs.lemmas.List.Folds.{sum_by-replicate}
+use Rattle.std.specs.List.{All, AllByRecursion, IsDistinct, sum_by}
 use mathlib.Core.Logic.{dite}
 use native.Mathlib.Decide.{ℕ_discrete, dec_le}
 use Rattle.evac_model.specs.declared.names.Kind.{Kind}
@@ -17,6 +21,7 @@ use Rattle.evac_model.specs.Page.{Page, new_page, zeros, kind_of}
 use Rattle.evac_model.specs.StartPages.{IsStartPage, AreStartPages}
 use Rattle.evac_words.specs.Word.{taken_bit, moving_bit, mapped_bit, frame_of, bound_of, bit_of}
 use Rattle.evac_words.specs.Table.{entry_index, dirty_index, cell_index, table_length}
+use Rattle.evac_model.proofs.Lists.{get_or-replicate_same}
 use Rattle.core_state.specs.declared.hand.HandFrame.{HandFrame}
 use Rattle.core_state.specs.declared.opening.Opening.{Opening}
 use Rattle.core_state.specs.declared.scan.Scan.{Scan}
@@ -36,7 +41,6 @@ use Rattle.core_state.proofs.EntryWords.{Fits, unmovable_for-fits, kind_of-unmov
 use Rattle.core_state.proofs.WordsAt.{next_ticket-entry, cells_of_frame-before, entry_word-here, entry_word-other}
 use Rattle.core_state.proofs.Cells.{at_entry, all_entry_words-set}
 use Rattle.core_state.proofs.Frames.{maps_to-one}
-use Rattle.core_state.proofs.StepPlaces.{row_within}
 use Rattle.core_state.proofs.Starts.{length-start_pages, length-opening_words, length-free_hand, length-unplugged_hand, length-spare_at_start, there_within, frame_within}
 
 -- ---- the word of a start page
@@ -55,17 +59,7 @@ record IsMapped (s : Sizes) (w : ℕ) (m : Page) : Type 0 where
   word : w ≡ mapped_word 0 frame kind
   page : m ≡ Some (new_page s.cells kind)
 
--- ---- lists of equal items
-
-get_or_same : {A : Type 0} (n i : ℕ) (x : A) → get_or (replicate n x) i x ≡ x
-get_or_same zero i x = refl
-get_or_same (suc n) zero x = refl
-get_or_same (suc n) (suc i) x = get_or_same n i x
-
 -- ---- a number that isn't among others
-
-number_apart : (f g : ℕ) → nat_eq f g ≡ false → f ≢ g
-number_apart f g h e = absurd (let t : nat_eq f g ≡ true = eq-eqb f g e in cc)
 
 abbrev Apart : ℕ → List ℕ → Type 0
 Apart x ys = AllByRecursion (λ y. nat_eq x y ≡ false) ys
@@ -87,7 +81,7 @@ module _ (s : Sizes) (w : IsWithinLimits s) where
 
   at_start : (ps : List StartPage) (page : ℕ) → AllByRecursion (IsStartPage s) ps → page < s.pages
       → IsUnmapped (entry_word_of (opening_words s ps) page) (get_or (start_pages s ps) page None) ⊎ IsMapped s (entry_word_of (opening_words s ps) page) (get_or (start_pages s ps) page None)
-  at_start [] page each lt = inl (get_or_same (table_length s.pages (frame_count s) s.cells) (entry_index page) 0, get_or_same s.pages page None)
+  at_start [] page each lt = inl (get_or-replicate_same (table_length s.pages (frame_count s) s.cells) (entry_index page) 0, get_or-replicate_same s.pages page None)
   at_start (p ∷ ps) page each lt = dite (ℕ_discrete page p.page.0)
       (λ e. inr (record {
         frame = p.frame.0;
@@ -105,11 +99,11 @@ module _ (s : Sizes) (w : IsWithinLimits s) where
 
   -- the word of a page that no start page names
   word_unnamed : (ps : List StartPage) (page : ℕ) → Apart page (map (λ p. p.page.0) ps) → entry_word_of (opening_words s ps) page ≡ 0
-  word_unnamed [] page apart = get_or_same (table_length s.pages (frame_count s) s.cells) (entry_index page) 0
-  word_unnamed (p ∷ ps) page apart = entry_word-other (opening_words s ps) p.page.0 (mapped_word 0 p.frame.0 p.kind) page (number_apart page p.page.0 apart.0) ∙ word_unnamed ps page apart.1
+  word_unnamed [] page apart = get_or-replicate_same (table_length s.pages (frame_count s) s.cells) (entry_index page) 0
+  word_unnamed (p ∷ ps) page apart = entry_word-other (opening_words s ps) p.page.0 (mapped_word 0 p.frame.0 p.kind) page (eqb-false page p.page.0 apart.0) ∙ word_unnamed ps page apart.1
 
   first_zero : (ps : List StartPage) → next_ticket_of (opening_words s ps) ≡ 0
-  first_zero [] = get_or_same (table_length s.pages (frame_count s) s.cells) 0 0
+  first_zero [] = get_or-replicate_same (table_length s.pages (frame_count s) s.cells) 0 0
   first_zero (p ∷ ps) = next_ticket-entry (opening_words s ps) p.page.0 (mapped_word 0 p.frame.0 p.kind) ∙ first_zero ps
 
   -- ---- hands
@@ -124,20 +118,20 @@ module _ (s : Sizes) (w : IsWithinLimits s) where
   at_hand_fresh f hand e = ap (λ (m : Option HandFrame). bit_of (is_some m)) e
 
   at_empty : (n f : ℕ) → at_hand f (empty_places n) ≡ 0
-  at_empty n f = at_hand_none f (empty_places n) (get_or_same n f None)
+  at_empty n f = at_hand_none f (empty_places n) (get_or-replicate_same n f None)
 
   there_low : (ps : List StartPage) (f : ℕ) → f < frames_there s → Apart f (map (λ p. p.frame.0) ps) → get_or (free_hand s ps) f None ≡ Some (fresh_frame s.cells)
   there_low [] f lt apart =
       let a = length-replicate {A = Option HandFrame} (frames_there s) (Some (fresh_frame s.cells)) in
       get_or_append_left (fresh_places s.cells (frames_there s)) (empty_places (frame_count s - frames_there s)) None f (omega arith)
       ∙ get_or-replicate (frames_there s) f (Some (fresh_frame s.cells)) None lt
-  there_low (p ∷ ps) f lt apart = get_or-set_other (free_hand s ps) p.frame.0 f None None (number_apart f p.frame.0 apart.0) ∙ there_low ps f lt apart.1
+  there_low (p ∷ ps) f lt apart = get_or-set_other (free_hand s ps) p.frame.0 f None None (eqb-false f p.frame.0 apart.0) ∙ there_low ps f lt apart.1
 
   there_high : (ps : List StartPage) (f : ℕ) → frames_there s ≤ f → get_or (free_hand s ps) f None ≡ None
   there_high [] f le =
       let a = length-replicate {A = Option HandFrame} (frames_there s) (Some (fresh_frame s.cells)) in
       get_or-append_right (fresh_places s.cells (frames_there s)) (empty_places (frame_count s - frames_there s)) f None (omega arith)
-      ∙ get_or_same (frame_count s - frames_there s) (f - length (fresh_places s.cells (frames_there s))) None
+      ∙ get_or-replicate_same (frame_count s - frames_there s) (f - length (fresh_places s.cells (frames_there s))) None
   there_high (p ∷ ps) f le = hand_cases (free_hand s ps) p.frame.0 f (there_high ps f le) where
     hand_cases : (l : List (Option HandFrame)) (k q : ℕ) → get_or l q None ≡ None → get_or (set l k None) q None ≡ None
     hand_cases [] k q e = refl
@@ -150,7 +144,7 @@ module _ (s : Sizes) (w : IsWithinLimits s) where
   unplugged_low f lt = at_hand_none f (unplugged_hand s)
       (let a = length-replicate {A = Option HandFrame} (frames_there s) None in
       get_or_append_left (empty_places (frames_there s)) (fresh_places s.cells (frame_count s - frames_there s)) None f (omega arith)
-      ∙ get_or_same (frames_there s) f None)
+      ∙ get_or-replicate_same (frames_there s) f None)
 
   unplugged_mid : (f : ℕ) → frames_there s ≤ f → f < frame_count s → at_hand f (unplugged_hand s) ≡ 1
   unplugged_mid f le lt = at_hand_fresh f (unplugged_hand s)
@@ -170,15 +164,11 @@ module _ (s : Sizes) (w : IsWithinLimits s) where
     shaped : (ps : List StartPage) → Shaped (opening_of s start budgets) (opening_words s ps)
     shaped ps = record { long = length-opening_words s ps }
 
-    no_words : (f n : ℕ) → sum_by (λ x. maps_to f x) (replicate n 0) ≡ 0
-    no_words f zero = refl
-    no_words f (suc n) = let a = sum_by-cons (λ x. maps_to f x) 0 (replicate n 0) in let b = no_words f n in omega arith
-
     unmapped_frame : (f : ℕ) → times_mapped (opening_of s start budgets) f (opening_words s []) ≡ 0
     unmapped_frame f =
         ap (λ (l : List ℕ). sum_by (λ x. maps_to f x) (take s.pages l)) (drop-replicate 1 (table_length s.pages (frame_count s) s.cells) 0)
         ∙ ap (λ (l : List ℕ). sum_by (λ x. maps_to f x) l) (take-replicate s.pages (table_length s.pages (frame_count s) s.cells - 1) 0 (omega arith))
-        ∙ no_words f s.pages
+        ∙ sum_by-replicate (λ x. maps_to f x) s.pages 0 ∙ omega arith
 
     maps_to_here : (frame : ℕ) (kind : Kind) → frame < frame_count s → maps_to frame (mapped_word 0 frame kind) ≡ 1
     maps_to_here frame kind low = let r = word_fits frame kind (let a = frames_small in omega arith) in
@@ -213,9 +203,10 @@ module _ (s : Sizes) (w : IsWithinLimits s) where
 
     -- ---- sums over the views
 
-    no_frame : (f : ℕ) (k : ℕ) (ns : List ℕ) → sum_by (λ v. times_in_hand f v) (owner_views s k ns) ≡ 0
-    no_frame f k [] = refl
-    no_frame f k (n ∷ ns) = let a = sum_by-cons (λ v. times_in_hand f v) (owner_view s k n) (owner_views s (k + 1) ns) in let b = at_empty (frame_count s) f in let c = no_frame f (k + 1) ns in omega arith
+    -- what owners have none of at the start
+    owners_none : (g : View → ℕ) → ((k n : ℕ) → g (owner_view s k n) ≡ 0) → (k : ℕ) (ns : List ℕ) → sum_by g (owner_views s k ns) ≡ 0
+    owners_none g none k [] = refl
+    owners_none g none k (n ∷ ns) = let a = sum_by-cons g (owner_view s k n) (owner_views s (k + 1) ns) in let b = none k n in let c = owners_none g none (k + 1) ns in omega arith
 
     -- a sum over all views
     sum_views : (g : View → ℕ) → sum_by g (opening_views s start budgets) ≡ g (driver_view s) + (sum_by g (owner_views s 1 budgets) + (g (scanner_view s) + (g (keeper_view s (Some []) (free_hand s start)) + g (keeper_view s None (unplugged_hand s)))))
@@ -228,7 +219,7 @@ module _ (s : Sizes) (w : IsWithinLimits s) where
         omega arith
 
     in_hands : (f : ℕ) → times_in_hands f (opening_views s start budgets) ≡ at_hand f (free_hand s start) + at_hand f (unplugged_hand s)
-    in_hands f = let a = sum_views (λ v. times_in_hand f v) in let b = no_frame f 1 budgets in let c = at_empty (frame_count s) f in omega arith
+    in_hands f = let a = sum_views (λ v. times_in_hand f v) in let b = owners_none (λ v. times_in_hand f v) (λ k n. at_empty (frame_count s) f) 1 budgets in let c = at_empty (frame_count s) f in omega arith
 
     -- a start page's frame has places for its cells
     spare_low : (ps : List StartPage) (f : ℕ) → AllByRecursion (IsStartPage s) ps → f < frames_there s → at_hand f (free_hand s ps) ≡ 0 → get_or (spare_at_start s ps) f None ≡ Some (nothing_known s.cells)
@@ -252,30 +243,18 @@ module _ (s : Sizes) (w : IsWithinLimits s) where
     pub budget : all_left (opening_views s start budgets) ≡ sum budgets
     budget = let a = sum_views (λ v. v.left) in let b = owners_left 1 budgets in omega arith
 
-    owners_stay : (page k : ℕ) (ns : List ℕ) → sum_by (λ v. right_to page v) (owner_views s k ns) ≡ 0
-    owners_stay page k [] = refl
-    owners_stay page k (n ∷ ns) = let a = sum_by-cons (λ (v : View). right_to page v) (owner_view s k n) (owner_views s (k + 1) ns) in let c = owners_stay page (k + 1) ns in omega arith
-
     bit_small : (b : Bool) → bit_of b ≤ 1
     bit_small true = omega arith
     bit_small false = omega arith
 
     one_mover : (page : ℕ) → movers page (opening_views s start budgets) ≤ 1
-    one_mover page = let a = sum_views (λ v. right_to page v) in let b = owners_stay page 1 budgets in let c = bit_small (get_or (replicate s.pages true) page false) in omega arith
-
-    owners_scan : (k : ℕ) (ns : List ℕ) → sum_by scans (owner_views s k ns) ≡ 0
-    owners_scan k [] = refl
-    owners_scan k (n ∷ ns) = let a = sum_by-cons scans (owner_view s k n) (owner_views s (k + 1) ns) in let c = owners_scan (k + 1) ns in omega arith
+    one_mover page = let a = sum_views (λ v. right_to page v) in let b = owners_none (λ v. right_to page v) (λ k n. refl) 1 budgets in let c = bit_small (get_or (replicate s.pages true) page false) in omega arith
 
     one_scanner : sum_by scans (opening_views s start budgets) ≤ 1
-    one_scanner = let a = sum_views scans in let b = owners_scan 1 budgets in omega arith
-
-    owners_keep : (k : ℕ) (ns : List ℕ) → sum_by keeps_journal (owner_views s k ns) ≡ 0
-    owners_keep k [] = refl
-    owners_keep k (n ∷ ns) = let a = sum_by-cons keeps_journal (owner_view s k n) (owner_views s (k + 1) ns) in let c = owners_keep (k + 1) ns in omega arith
+    one_scanner = let a = sum_views scans in let b = owners_none scans (λ k n. refl) 1 budgets in omega arith
 
     one_journal : sum_by keeps_journal (opening_views s start budgets) ≤ 1
-    one_journal = let a = sum_views keeps_journal in let b = owners_keep 1 budgets in omega arith
+    one_journal = let a = sum_views keeps_journal in let b = owners_none keeps_journal (λ k n. refl) 1 budgets in omega arith
 
     -- ---- each seat is new
 
@@ -295,9 +274,13 @@ module _ (s : Sizes) (w : IsWithinLimits s) where
       swept = λ z e. ap (λ (y : Scan). y.swept) (sym (same_Some (new_scan s) z e));
     }
 
+    -- nothing was stored in a frame that is there
+    abbrev IsFresh : Option HandFrame → Type 0
+    IsFresh m = (x : HandFrame) → m ≡ Some x → x.stores ≡ replicate s.cells None
+
     new_is_new : (caller : Option ℕ) (left : ℕ) (mover : List Bool) (hand : List (Option HandFrame)) (scan : Option Scan) (journal : Option (List SpaceAction)) → (0 < left → IsSome caller)
         → length hand ≡ frame_count s
-        → ((f : ℕ) (x : HandFrame) → get_or hand f None ≡ Some x → x.stores ≡ replicate s.cells None)
+        → All IsFresh hand
         → IsNewScan scan
         → IsNew (opening_of s start budgets) (record (new_view s caller left mover hand scan) { actions = record spent.actions { journal = journal } })
     new_is_new caller left mover hand scan journal called long fresh new = record {
@@ -309,38 +292,20 @@ module _ (s : Sizes) (w : IsWithinLimits s) where
       unmarked = refl;
       seen = refl;
       caller = called;
-      hand = fresh;
+      hand = λ f x is. dite (dec_le (length hand) f) (λ past. absurd (none-some x (sym (get_or_past hand f None past) ∙ is))) (λ no. fresh f None (omega arith) x is);
       copies = new.copies;
       swept = new.swept;
     }
 
-    nothing_fresh : (n f : ℕ) (x : HandFrame) → get_or (empty_places n) f None ≡ Some x → x.stores ≡ replicate s.cells None
-    nothing_fresh n f x is = absurd (none-some x (sym (get_or_same n f None) ∙ is))
+    nothing_fresh : (n : ℕ) → All IsFresh (empty_places n)
+    nothing_fresh n = All-replicate IsFresh n None (λ x e. absurd (none-some x e))
 
-    fresh_is : (x : HandFrame) → Some (fresh_frame s.cells) ≡ Some x → x.stores ≡ replicate s.cells None
-    fresh_is x e = ap (λ (y : HandFrame). y.stores) (sym (same_Some (fresh_frame s.cells) x e))
+    all_fresh : (n : ℕ) → All IsFresh (fresh_places s.cells n)
+    all_fresh n = All-replicate IsFresh n (Some (fresh_frame s.cells)) (λ x e. ap (λ (y : HandFrame). y.stores) (sym (same_Some (fresh_frame s.cells) x e)))
 
-    fresh_fresh : (n f : ℕ) (x : HandFrame) → get_or (fresh_places s.cells n) f None ≡ Some x → x.stores ≡ replicate s.cells None
-    fresh_fresh zero f x is = absurd (none-some x is)
-    fresh_fresh (suc n) zero x is = fresh_is x is
-    fresh_fresh (suc n) (suc f) x is = fresh_fresh n f x is
-
-    both_fresh : (a b : List (Option HandFrame)) → ((f : ℕ) (x : HandFrame) → get_or a f None ≡ Some x → x.stores ≡ replicate s.cells None) → ((f : ℕ) (x : HandFrame) → get_or b f None ≡ Some x → x.stores ≡ replicate s.cells None)
-        → (f : ℕ) (x : HandFrame) → get_or (a ++ b) f None ≡ Some x → x.stores ≡ replicate s.cells None
-    both_fresh [] b p q f x is = q f x is
-    both_fresh (m ∷ a) b p q zero x is = p zero x is
-    both_fresh (m ∷ a) b p q (suc f) x is = both_fresh a b (λ g y e. p (suc g) y e) q f x is
-
-    less_fresh : (l : List (Option HandFrame)) (k : ℕ) → ((f : ℕ) (x : HandFrame) → get_or l f None ≡ Some x → x.stores ≡ replicate s.cells None) → (f : ℕ) (x : HandFrame) → get_or (set l k None) f None ≡ Some x → x.stores ≡ replicate s.cells None
-    less_fresh [] k p f x is = absurd (none-some x is)
-    less_fresh (m ∷ l) zero p zero x is = absurd (none-some x is)
-    less_fresh (m ∷ l) zero p (suc f) x is = p (suc f) x is
-    less_fresh (m ∷ l) (suc k) p zero x is = p zero x is
-    less_fresh (m ∷ l) (suc k) p (suc f) x is = less_fresh l k (λ g y e. p (suc g) y e) f x is
-
-    free_fresh : (ps : List StartPage) (f : ℕ) (x : HandFrame) → get_or (free_hand s ps) f None ≡ Some x → x.stores ≡ replicate s.cells None
-    free_fresh [] = both_fresh (fresh_places s.cells (frames_there s)) (empty_places (frame_count s - frames_there s)) (fresh_fresh (frames_there s)) (nothing_fresh (frame_count s - frames_there s))
-    free_fresh (p ∷ ps) = less_fresh (free_hand s ps) p.frame.0 (free_fresh ps)
+    free_fresh : (ps : List StartPage) → All IsFresh (free_hand s ps)
+    free_fresh [] = All-append IsFresh (fresh_places s.cells (frames_there s)) (empty_places (frame_count s - frames_there s)) (all_fresh (frames_there s)) (nothing_fresh (frame_count s - frames_there s))
+    free_fresh (p ∷ ps) = All-set IsFresh (free_hand s ps) p.frame.0 None (λ x e. absurd (none-some x e)) (free_fresh ps)
 
     all_empty : length (empty_places (frame_count s)) ≡ frame_count s
     all_empty = length-replicate {A = Option HandFrame} (frame_count s) None
@@ -355,7 +320,7 @@ module _ (s : Sizes) (w : IsWithinLimits s) where
         (new_is_new None 0 [] (free_hand s start) None (Some []) (no_left None) (length-free_hand s start w) (free_fresh start) no_scan)
     new_last (suc (suc zero)) v has = subst (λ (x : View). IsNew (opening_of s start budgets) x) (same_Some (keeper_view s None (unplugged_hand s)) v has)
         (new_is_new None 0 [] (unplugged_hand s) None None (no_left None) (length-unplugged_hand s w)
-        (both_fresh (empty_places (frames_there s)) (fresh_places s.cells (frame_count s - frames_there s)) (nothing_fresh (frames_there s)) (fresh_fresh (frame_count s - frames_there s))) no_scan)
+        (All-append IsFresh (empty_places (frames_there s)) (fresh_places s.cells (frame_count s - frames_there s)) (nothing_fresh (frames_there s)) (all_fresh (frame_count s - frames_there s))) no_scan)
     new_last (suc (suc (suc i))) v has = absurd (none-some v has)
 
     new_owners : (k : ℕ) (ns : List ℕ) (i : ℕ) (v : View) → Has (owner_views s k ns ++ scanner_view s ∷ keeper_views s start) i v → IsNew (opening_of s start budgets) v
@@ -375,13 +340,13 @@ module _ (s : Sizes) (w : IsWithinLimits s) where
     cells_zero [] frame each low =
         ap (λ (l : List ℕ). take s.cells l) (drop-replicate (cell_index s.pages (frame_count s) s.cells frame 0) (table_length s.pages (frame_count s) s.cells) 0)
         ∙ take-replicate s.cells (table_length s.pages (frame_count s) s.cells - cell_index s.pages (frame_count s) s.cells frame 0) 0
-        (let a = row_within s.cells frame (frame_count s) low in omega arith)
+        (let a = row_fits frame s.cells (frame_count s) s.cells low (omega arith) in omega arith)
     cells_zero (p ∷ ps) frame each low =
         cells_of_frame-before (opening_of s start budgets) (opening_words s ps) (entry_index p.page.0) (mapped_word 0 p.frame.0 p.kind) frame (let a = each.0.page in omega arith)
         ∙ cells_zero ps frame each.1 low
 
     clean : (ps : List StartPage) (frame : ℕ) → AllByRecursion (IsStartPage s) ps → frame < frame_count s → dirty_word_of (opening_of s start budgets) (opening_words s ps) frame ≡ 0
-    clean [] frame each low = get_or_same (table_length s.pages (frame_count s) s.cells) (dirty_index s.pages frame) 0
+    clean [] frame each low = get_or-replicate_same (table_length s.pages (frame_count s) s.cells) (dirty_index s.pages frame) 0
     clean (p ∷ ps) frame each low =
         get_or-set_other (opening_words s ps) (entry_index p.page.0) (dirty_index s.pages frame) (mapped_word 0 p.frame.0 p.kind) 0 (λ e. absurd (let a = each.0.page in omega arith))
         ∙ clean ps frame each.1 low
@@ -444,8 +409,8 @@ module _ (s : Sizes) (w : IsWithinLimits s) where
       budget_is = budget;
       budget_small = omega arith;
       free = λ page lt. free_word are page lt;
-      bound_is = λ page lt. no_bound are page lt ∙ sym (get_or_same s.pages page 0);
-      bound_low = λ page lt. let a : get_or (replicate s.pages 0) page 0 ≡ 0 = get_or_same s.pages page 0 in subst (λ n. n ≤ 0) (sym a) (omega arith);
+      bound_is = λ page lt. no_bound are page lt ∙ sym (get_or-replicate_same s.pages page 0);
+      bound_low = λ page lt. let a : get_or (replicate s.pages 0) page 0 ≡ 0 = get_or-replicate_same s.pages page 0 in subst (λ n. n ≤ 0) (sym a) (omega arith);
       shows = λ page lt. shows are page lt;
       sized = λ page lt. sized are page lt;
       clean = λ frame low. clean start frame are.each low;

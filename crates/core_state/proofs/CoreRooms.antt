@@ -1,11 +1,11 @@
 -- The memory that a core is opened with is enough.
-use Rattle.std.proofs.Common.{◌≡◌, ℕ, zero, suc, eqb, ◌+◌, ◌^◌, ◌<◌, ◌≤◌, List, [], ◌∷◌, length, replicate, sum, get_or, sym, refl, ap, subst, ◌∙◌, arith, Option, Some, None}
+use Rattle.std.proofs.Common.{◌≡◌, ℕ, zero, suc, eqb, ◌+◌, ◌*◌, ◌^◌, ◌<◌, ◌≤◌, List, [], ◌∷◌, length, replicate, sum, get_or, sym, refl, ap, subst, ◌∙◌, arith, Option, Some, None}
 use Rattle.std.specs.Prelude.{IsSomeAnd}
 use Rattle.std.specs.List.{sum_by, count_by, AllByRecursion}
 use Rattle.std.specs.FinMap.{insert, from_entries}
 use Rattle.std.proofs.lemmas.List.{length-replicate, get_or-replicate}
+use Rattle.std.proofs.lemmas.List.Folds.{sum_by-replicate}
 use Rattle.std.proofs.lemmas.List.Sums.{sum_by-cons}
-use Rattle.std.proofs.lemmas.Option.{none-some}
 use Rattle.evac_model.specs.declared.names.FrameNo.{FrameNo}
 use Rattle.evac_model.specs.declared.scenario.StartPage.{StartPage}
 use Rattle.evac_model.specs.declared.entry.Entry.{Entry}
@@ -36,8 +36,7 @@ sum_by_same f g [] h = refl
 sum_by_same f g (x ∷ xs) h = let a = sum_by-cons f x xs in let b = sum_by-cons g x xs in let c = h 0 x refl in let d = sum_by_same f g xs (λ i v e. h (suc i) v e) in omega arith
 
 one_each : (n : ℕ) (l : List FrameNo) → length l ≡ 1 → sum_by (λ (m : List FrameNo). length m) (replicate n l) ≡ n
-one_each zero l e = refl
-one_each (suc n) l e = let a = sum_by-cons (λ (m : List FrameNo). length m) l (replicate n l) in let b = one_each n l e in omega arith
+one_each n l e = sum_by-replicate (λ (m : List FrameNo). length m) n l ∙ ap (λ (k : ℕ). n * k) e ∙ omega arith
 
 none_swept : {o : Opening} (v : View) → IsNew o v → swept_in v.scan ≡ 0
 none_swept v new = by_scan v.scan refl where

@@ -1,15 +1,14 @@
 -- The entry with a ticket, and the page after the first tickets, where one view is replaced.
-use Rattle.std.proofs.Common.{◌≡◌, ℕ, eqb, cond, Bool, eq-eqb, ne_eqb, zero, suc, ◌+◌, ◌<◌, ◌≤◌, ◌≢◌, List, [], ◌∷◌, ◌++◌, set, sym, refl, ap, ◌∙◌, arith, Option, Some, None}
+use Rattle.std.proofs.Common.{◌≡◌, ℕ, eqb, cond, Bool, ne_eqb, zero, suc, ◌+◌, ◌<◌, ◌≤◌, ◌≢◌, List, [], ◌∷◌, ◌++◌, set, sym, refl, ap, ◌∙◌, arith, Option, Some, None}
 use Rattle.std.specs.List.{count_by}
 use Rattle.std.proofs.lemmas.List.Sums.{sum_by-cons}
 use Rattle.std.proofs.lemmas.Option.{same_Some, none-some}
-use mathlib.Core.Logic.{dite}
-use native.Mathlib.Decide.{ℕ_discrete}
+use Rattle.std.proofs.lemmas.Grind.{common_steps}
 use Rattle.evac_model.specs.declared.entry.Entry.{Entry}
 use Rattle.core_state.specs.declared.opening.Opening.{Opening}
 use Rattle.core_state.specs.declared.view.View.{View}
 use Rattle.core_state.specs.Views.{Has}
-use Rattle.core_state.specs.Parts.{is_at, bound_by, latest_in, latest, uses, uses_of}
+use Rattle.core_state.specs.Parts.{latest_in, latest, uses, uses_of}
 use Rattle.core_state.specs.Pages.{or_else, entry_in, entry_with, answer_at, page_after_entry, page_after}
 
 pub entry_with-kept : (t : ℕ) (views : List View) (i : ℕ) (v w : View) → Has views i v → w.entries ≡ v.entries → entry_with t (set views i w) ≡ entry_with t views
@@ -19,9 +18,7 @@ entry_with-kept t (y ∷ ys) (suc i) v w at e = ap (λ m. or_else (entry_in t y.
 
 pub entry_in-none : (t : ℕ) (es : List Entry) → count_by (λ e. eqb e.ticket t) es ≡ 0 → entry_in t es ≡ None
 entry_in-none t [] z = refl
-entry_in-none t (e ∷ es) z = let s = sum_by-cons (λ (x : Entry). cond (eqb x.ticket t) 1 0) e es in dite (ℕ_discrete e.ticket t)
-    (λ q. let a : is_at t (Some e.ticket) ≡ 1 = ap (λ (b : Bool). cond b 1 0) (eq-eqb e.ticket t q) in absurd (omega arith))
-    (λ ne. ap (λ (b : Bool). cond b (Some e) (entry_in t es)) (ne_eqb e.ticket t ne) ∙ entry_in-none t es (omega arith))
+entry_in-none t (e ∷ es) z = grind (arith, common_steps, sum_by-cons (λ (x : Entry). cond (eqb x.ticket t) 1 0) e es, entry_in-none t es)
 
 pub entry_with-none : (t : ℕ) (views : List View) → uses t views ≡ 0 → entry_with t views ≡ None
 entry_with-none t [] z = refl
@@ -50,11 +47,8 @@ entry_in-push_other t [] e ne = ap (λ (b : Bool). cond b (Some e) None) (ne_eqb
 entry_in-push_other t (x ∷ xs) e ne = ap (λ m. cond (eqb x.ticket t) (Some x) m) (entry_in-push_other t xs e ne)
 
 pub entry_in-push_same : (t : ℕ) (es : List Entry) (e : Entry) → e.ticket ≡ t → entry_in t es ≡ None → entry_in t (es ++ e ∷ []) ≡ Some e
-entry_in-push_same t [] e q none = ap (λ (b : Bool). cond b (Some e) None) (eq-eqb e.ticket t q)
-entry_in-push_same t (x ∷ xs) e q none = dite (ℕ_discrete x.ticket t)
-    (λ s. absurd (none-some x (sym none ∙ ap (λ (b : Bool). cond b (Some x) (entry_in t xs)) (eq-eqb x.ticket t s))))
-    (λ ne. let c = ne_eqb x.ticket t ne in ap (λ (b : Bool). cond b (Some x) (entry_in t (xs ++ e ∷ []))) c
-    ∙ entry_in-push_same t xs e q (sym (ap (λ (b : Bool). cond b (Some x) (entry_in t xs)) c) ∙ none))
+entry_in-push_same t [] e q none = grind (arith, common_steps)
+entry_in-push_same t (x ∷ xs) e q none = grind (arith, common_steps, entry_in-push_same t xs e q)
 
 pub entry_with-added_other : (t : ℕ) (views : List View) (i : ℕ) (v w : View) (e : Entry) → Has views i v → w.entries ≡ v.entries ++ e ∷ [] → e.ticket ≢ t → entry_with t (set views i w) ≡ entry_with t views
 entry_with-added_other t [] i v w e at q ne = refl
@@ -63,8 +57,7 @@ entry_with-added_other t (y ∷ ys) zero v w e at q ne = ap (λ m. or_else m (en
 entry_with-added_other t (y ∷ ys) (suc i) v w e at q ne = ap (λ m. or_else (entry_in t y.entries) m) (entry_with-added_other t ys i v w e at q ne)
 
 or_else-none : (a b : Option Entry) → or_else a b ≡ None → (a ≡ None) × (b ≡ None)
-or_else-none None b q = (refl, q)
-or_else-none (Some x) b q = absurd (none-some x (sym q))
+or_else-none a b q = (grind (arith, common_steps), grind (arith, common_steps))
 
 pub entry_with-added_same : (t : ℕ) (views : List View) (i : ℕ) (v w : View) (e : Entry) → Has views i v → w.entries ≡ v.entries ++ e ∷ [] → e.ticket ≡ t → entry_with t views ≡ None → entry_with t (set views i w) ≡ Some e
 entry_with-added_same t [] i v w e at q s none = absurd (none-some v at)
@@ -76,11 +69,7 @@ entry_with-added_same t (y ∷ ys) (suc i) v w e at q s none = let p = or_else-n
 -- an entry that is found has its ticket, and its page's latest_in is above it
 pub entry_in-found : (t : ℕ) (es : List Entry) (e : Entry) → entry_in t es ≡ Some e → (e.ticket ≡ t) × (t < latest_in e.page.0 es)
 entry_in-found t [] e q = absurd (none-some e q)
-entry_in-found t (x ∷ xs) e q = dite (ℕ_discrete x.ticket t)
-    (λ s. let same : x ≡ e = same_Some _ _ (sym (ap (λ (b : Bool). cond b (Some x) (entry_in t xs)) (eq-eqb x.ticket t s)) ∙ q) in
-    let a : e.ticket ≡ t = sym (ap (λ (y : Entry). y.ticket) same) ∙ s in
-    (a, let b : bound_by e.page.0 x ≡ x.ticket + 1 = ap (λ (b : Bool). cond b (x.ticket + 1) 0) (eq-eqb x.page.0 e.page.0 (ap (λ (y : Entry). y.page.0) same)) in omega arith))
-    (λ ne. let r = entry_in-found t xs e (sym (ap (λ (b : Bool). cond b (Some x) (entry_in t xs)) (ne_eqb x.ticket t ne)) ∙ q) in (r.0, let l = r.1 in omega arith))
+entry_in-found t (x ∷ xs) e q = (grind (arith, common_steps, entry_in-found t xs e), grind (arith, common_steps, entry_in-found t xs e))
 
 pub entry_with-found : (t : ℕ) (views : List View) (e : Entry) → entry_with t views ≡ Some e → (e.ticket ≡ t) × (t < latest e.page.0 views)
 entry_with-found t [] e q = absurd (none-some e q)

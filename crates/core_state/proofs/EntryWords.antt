@@ -1,7 +1,7 @@
 -- What is read of an entry word that was taken or packed.
 use Rattle.std.proofs.Common.{◌≡◌, ℕ, eqb, ◌+◌, ◌/◌, ◌%◌, ◌<◌, bit_or, refl, arith}
+use Rattle.std.proofs.lemmas.Grind.{common_steps}
 use Rattle.evac_model.specs.declared.names.Kind.{Kind}
-use Rattle.evac_model.specs.declared.names.Kind.TheVariants.{Movable, Unmovable}
 use Rattle.evac_model.specs.Page.{kind_of}
 use Rattle.evac_words.specs.Word.{taken_bit, moving_bit, mapped_bit, unmovable_bit, pins_of, frame_of, bound_of}
 use Rattle.evac_words.proofs.Words.{half-bit_or, taken_bit-bit_or}
@@ -24,12 +24,10 @@ bound_of-take w = bound-from_half (bit_or w 1) w (half-bit_or w)
 -- ---- kinds
 
 pub unmovable_for-fits : (k : Kind) → unmovable_for k < 2
-unmovable_for-fits Movable = omega arith
-unmovable_for-fits Unmovable = omega arith
+unmovable_for-fits k = grind (arith, common_steps)
 
 pub kind_of-unmovable_for : (k : Kind) → kind_of (eqb (unmovable_for k) 0) ≡ k
-kind_of-unmovable_for Movable = refl
-kind_of-unmovable_for Unmovable = refl
+kind_of-unmovable_for k = grind (arith, common_steps)
 
 -- ---- flags
 

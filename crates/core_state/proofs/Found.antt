@@ -1,8 +1,9 @@
 -- The entry with a ticket is one that some view has, and the only one.
-use Rattle.std.proofs.Common.{◌≡◌, ℕ, eqb, cond, Bool, eq-eqb, ne_eqb, zero, suc, ◌+◌, ◌<◌, ◌≤◌, List, [], ◌∷◌, sym, refl, ap, ◌∙◌, ⊎_elim, arith, Option, Some, None}
+use Rattle.std.proofs.Common.{◌≡◌, ℕ, eqb, cond, Bool, eq-eqb, ne_eqb, zero, suc, ◌<◌, ◌≤◌, List, [], ◌∷◌, sym, refl, ap, ◌∙◌, ⊎_elim, arith, Option, Some, None}
 use Rattle.std.specs.List.{count_by, slice_get}
 use Rattle.std.proofs.lemmas.List.Sums.{sum_by-cons}
 use Rattle.std.proofs.lemmas.Option.{same_Some, none-some}
+use Rattle.std.proofs.lemmas.Grind.{common_steps}
 use mathlib.Core.Logic.{dite}
 use native.Mathlib.Decide.{ℕ_discrete, dec_le}
 use Rattle.evac_model.specs.declared.entry.Entry.{Entry}
@@ -10,15 +11,16 @@ use Rattle.core_state.specs.declared.opening.Opening.{Opening}
 use Rattle.core_state.specs.declared.view.View.{View}
 use Rattle.core_state.specs.Words.{next_ticket_of}
 use Rattle.core_state.specs.Views.{Has}
-use Rattle.core_state.specs.Parts.{is_at, bound_by, latest_in, latest, uses, uses_of, Tickets}
+use Rattle.core_state.specs.Parts.{is_at, latest_in, latest, uses, uses_of, Tickets}
 use Rattle.core_state.specs.Pages.{or_else, entry_in, entry_with}
 use Rattle.core_state.specs.NoticedWords.{HasEntry}
 use Rattle.core_state.proofs.Lists.{member_le_sum_by}
+use Rattle.core_state.proofs.TicketSteps.{used-drawn}
 use Rattle.core_state.proofs.NoticedKept.{latest-reached}
 
 -- ---- the entry that is found is there
 
-entry_in-at : (t : ℕ) (es : List Entry) (e : Entry) → entry_in t es ≡ Some e → (k : ℕ) × (slice_get es k ≡ Some e)
+pub entry_in-at : (t : ℕ) (es : List Entry) (e : Entry) → entry_in t es ≡ Some e → (k : ℕ) × (slice_get es k ≡ Some e)
 entry_in-at t [] e q = absurd (none-some e q)
 entry_in-at t (x ∷ xs) e q = dite (ℕ_discrete x.ticket t)
     (λ s. (0, sym (ap (λ (b : Bool). cond b (Some x) (entry_in t xs)) (eq-eqb x.ticket t s)) ∙ q))
@@ -40,16 +42,12 @@ counts t es k e at s = let m = member_le_sum_by (λ (y : Entry). is_at t (Some y
 
 entry_in-of : (t : ℕ) (es : List Entry) (k : ℕ) (e : Entry) → slice_get es k ≡ Some e → e.ticket ≡ t → count_by (λ x. eqb x.ticket t) es ≤ 1 → entry_in t es ≡ Some e
 entry_in-of t [] k e at s few = absurd (none-some e at)
-entry_in-of t (x ∷ xs) zero e at s few = ap (λ (b : Bool). cond b (Some x) (entry_in t xs)) (eq-eqb x.ticket t (ap (λ (y : Entry). y.ticket) (same_Some x e at) ∙ s)) ∙ at
-entry_in-of t (x ∷ xs) (suc k) e at s few = let c = sum_by-cons (λ (y : Entry). is_at t (Some y.ticket)) x xs in dite (ℕ_discrete x.ticket t)
-    (λ q. let a : is_at t (Some x.ticket) ≡ 1 = ap (λ (b : Bool). cond b 1 0) (eq-eqb x.ticket t q) in let d = counts t xs k e at s in absurd (omega arith))
-    (λ ne. ap (λ (b : Bool). cond b (Some x) (entry_in t xs)) (ne_eqb x.ticket t ne) ∙ entry_in-of t xs k e at s (omega arith))
+entry_in-of t (x ∷ xs) zero e at s few = let q = same_Some x e at in grind (arith, common_steps)
+entry_in-of t (x ∷ xs) (suc k) e at s few = grind (arith, common_steps, sum_by-cons (λ (y : Entry). is_at t (Some y.ticket)) x xs, counts t xs k e at s, entry_in-of t xs k e at s)
 
 entry_in-counts : (t : ℕ) (es : List Entry) (e : Entry) → entry_in t es ≡ Some e → 1 ≤ count_by (λ x. eqb x.ticket t) es
 entry_in-counts t [] e q = absurd (none-some e q)
-entry_in-counts t (x ∷ xs) e q = let c = sum_by-cons (λ (y : Entry). is_at t (Some y.ticket)) x xs in dite (ℕ_discrete x.ticket t)
-    (λ s. let a : is_at t (Some x.ticket) ≡ 1 = ap (λ (b : Bool). cond b 1 0) (eq-eqb x.ticket t s) in omega arith)
-    (λ ne. let r = entry_in-counts t xs e (sym (ap (λ (b : Bool). cond b (Some x) (entry_in t xs)) (ne_eqb x.ticket t ne)) ∙ q) in omega arith)
+entry_in-counts t (x ∷ xs) e q = grind (arith, common_steps, sum_by-cons (λ (y : Entry). is_at t (Some y.ticket)) x xs, entry_in-counts t xs e)
 
 pub entry_at-found : (t : ℕ) (views : List View) (i : ℕ) (v : View) (k : ℕ) (e : Entry) → Has views i v → slice_get v.entries k ≡ Some e → e.ticket ≡ t → uses t views ≤ 1 → entry_with t views ≡ Some e
 entry_at-found t [] i v k e has at s few = absurd (none-some v has)
@@ -78,10 +76,7 @@ uses_few o words views t s = dite (dec_le o.first t)
 
 -- the ticket of an entry was drawn
 pub has_entry-drawn : (o : Opening) (words : List ℕ) (views : List View) (e : Entry) → Tickets o words views → HasEntry views e → (o.first ≤ e.ticket) × (e.ticket < next_ticket_of words)
-has_entry-drawn o words views e s h = let u = has_entry-uses views e h in (
-  dite (dec_le o.first e.ticket) (λ low. low) (λ before. absurd (let a = s.none_before e.ticket (omega arith) in omega arith)),
-  dite (dec_le (next_ticket_of words) e.ticket) (λ high. absurd (let a = s.none_from e.ticket high in omega arith)) (λ below. omega arith),
-)
+has_entry-drawn o words views e s h = used-drawn o words views e.ticket s (has_entry-uses views e h)
 
 -- ---- the latest ticket of a page
 
@@ -91,8 +86,7 @@ below_latest [] i v k e has at = absurd (none-some v has)
 below_latest (y ∷ ys) zero v k e has at = let a = in_list y.entries k (ap (λ (z : View). slice_get z.entries k) (same_Some y v has) ∙ at) in omega arith where
   in_list : (es : List Entry) (k : ℕ) → slice_get es k ≡ Some e → e.ticket < latest_in e.page.0 es
   in_list [] k at = absurd (none-some e at)
-  in_list (x ∷ xs) zero at = let q = same_Some x e at in let b : bound_by e.page.0 x ≡ x.ticket + 1 = ap (λ (b : Bool). cond b (x.ticket + 1) 0) (eq-eqb x.page.0 e.page.0 (ap (λ (z : Entry). z.page.0) q)) in
-      let t : x.ticket ≡ e.ticket = ap (λ (z : Entry). z.ticket) q in omega arith
+  in_list (x ∷ xs) zero at = let q = same_Some x e at in grind (arith, common_steps)
   in_list (x ∷ xs) (suc k) at = let a = in_list xs k at in omega arith
 below_latest (y ∷ ys) (suc i) v k e has at = let a = below_latest ys i v k e has at in omega arith
 

@@ -1,10 +1,11 @@
 -- `Frames` is kept by each step of a call.
-use Rattle.std.proofs.Common.{◌≡◌, ℕ, eqb, cond, Bool, true, false, not, eq-eqb, ne_eqb, zero, suc, ◌+◌, ◌*◌, ◌<◌, ◌≤◌, ◌≢◌, bit_or, List, [], ◌∷◌, ◌++◌, filter, length, get_or, get_or-set_same, get_or-set_other, set, take, drop, sym, refl, ap, ◌∙◌, subst, inl, inr, ⊎_elim, arith, suc-mul, mul-le-mul_right, Option, Some, None}
+use Rattle.std.proofs.Common.{◌≡◌, ℕ, eqb, cond, true, false, not, zero, suc, ◌+◌, ◌*◌, ◌<◌, ◌≤◌, ◌≢◌, bit_or, List, [], ◌∷◌, filter, length, get_or, get_or-set_same, get_or-set_other, set, take, drop, sym, refl, ap, ◌∙◌, subst, inl, inr, ⊎_elim, arith, suc-mul, mul-le-mul_right, Option, Some, None}
 use Rattle.std.specs.Prelude.{IsSomeAnd, is_some}
 use Rattle.std.specs.List.{sum_by, count_by}
 use Rattle.std.proofs.lemmas.Option.{same_Some, none-some}
 use Rattle.std.proofs.lemmas.List.{drop-set-lt, drop-set-add, take-set-le, length-take, length-drop, set-get_or}
 use Rattle.std.proofs.lemmas.List.Sums.{sum_by-cons, sum_by_push}
+use Rattle.std.proofs.lemmas.Grind.{common_steps}
 use mathlib.Core.Logic.{dite}
 use native.Mathlib.Decide.{ℕ_discrete}
 use Rattle.evac_model.specs.declared.names.FrameNo.{FrameNo}
@@ -26,13 +27,14 @@ use Rattle.core_state.specs.Pages.{Agrees}
 use Rattle.core_state.specs.Frames.{all_entry_words, times_mapped, Frames}
 use Rattle.core_state.specs.Steps.{MayTake, MayStore, MayLetGo, MayEnd, with_hand_store, with_unmarked, with_ticket, held_page, held_ticket, pins_after, word_after_release, after_take, after_draw, after_load, after_store, after_mark, after_release, Allowed}
 use Rattle.core_state.specs.Stepped.{words_after, views_after}
-use Rattle.core_state.proofs.Lists.{at_set, sum_by_replaced, member_le_sum_by, two_members_le_sum_by}
+use Rattle.core_state.proofs.Lists.{at_set, sum_by_replaced}
 use Rattle.core_state.proofs.EntryWords.{same_flags-take, mapped_bit-released, frame_of-released}
 use Rattle.core_state.proofs.WordsAt.{cells_of_frame-before}
 use Rattle.core_state.proofs.Holding.{for_some, held_alike-load, held_alike-store}
 use Rattle.core_state.proofs.Cells.{at_entry, all_entry_words-set, all_entry_words-cell, cells_of_frame-same, cells_of_frame-other}
-use Rattle.core_state.proofs.Frames.{frame_once, maps_le, owned_in_range}
+use Rattle.core_state.proofs.Frames.{one_owner, owned_in_range}
 use Rattle.core_state.proofs.Pages.{SameCells}
+use Rattle.core_state.proofs.SeatSteps.{same_hand-store}
 
 -- ---- small facts
 
@@ -47,7 +49,7 @@ owns-kept v w f same holds = ⊎_elim
     inr (some_and w.held r.0 (λ h. maps_to f h.word ≡ 1) r.1 (ap (λ m. maps_to f m) r.2 ∙ q.2)))
 
 pub maps_to-same : (f w x : ℕ) → mapped_bit w ≡ mapped_bit x → frame_of w ≡ frame_of x → maps_to f w ≡ maps_to f x
-maps_to-same f w x m g = ap (λ (a : ℕ). cond (eqb a 1) (cond (eqb (frame_of w) f) 1 0) 0) m ∙ ap (λ (a : ℕ). cond (eqb (mapped_bit x) 1) (cond (eqb a f) 1 0) 0) g
+maps_to-same f w x m g = grind (arith, common_steps)
 
 pub length-cells_of_frame : (o : Opening) (words : List ℕ) (f : ℕ) → Shaped o words → f < o.frames → length (cells_of_frame o words f) ≡ o.cells
 length-cells_of_frame o words f s low =
@@ -79,40 +81,20 @@ hits f x = cond (eqb x.0 f) 1 0
 count_of-cons : (f : ℕ) (x : FrameNo) (l : List FrameNo) → count_of f (x ∷ l) ≡ hits f x + count_of f l
 count_of-cons f x l = sum_by-cons (λ (y : FrameNo). cond (eqb y.0 f) 1 0) x l
 
-without-same : (f : ℕ) (x : FrameNo) (l : List FrameNo) → x.0 ≡ f → without f (x ∷ l) ≡ without f l
-without-same f x l e = ap (λ (b : Bool). cond (not b) (x ∷ without f l) (without f l)) (eq-eqb x.0 f e)
-
-without-other : (f : ℕ) (x : FrameNo) (l : List FrameNo) → x.0 ≢ f → without f (x ∷ l) ≡ x ∷ without f l
-without-other f x l ne = ap (λ (b : Bool). cond (not b) (x ∷ without f l) (without f l)) (ne_eqb x.0 f ne)
-
 pub count_of-without_other : (f g : ℕ) (l : List FrameNo) → g ≢ f → count_of g (without f l) ≡ count_of g l
 count_of-without_other f g [] ne = refl
-count_of-without_other f g (x ∷ l) ne = let rest = count_of-without_other f g l ne in let whole = count_of-cons g x l in dite (ℕ_discrete x.0 f)
-    (λ e. let n : hits g x ≡ 0 = ap (λ (b : Bool). cond b 1 0) (ne_eqb x.0 g (λ q. ne (sym q ∙ e))) in
-    let a = ap (λ m. count_of g m) (without-same f x l e) in omega arith)
-    (λ no. let a = ap (λ m. count_of g m) (without-other f x l no) in let b = count_of-cons g x (without f l) in omega arith)
+count_of-without_other f g (x ∷ l) ne = let rest = count_of-without_other f g l ne in grind (arith, common_steps, count_of-cons g x l, count_of-cons g x (without f l))
 
 pub count_of-without_same : (f : ℕ) (l : List FrameNo) → count_of f (without f l) ≡ 0
 count_of-without_same f [] = refl
-count_of-without_same f (x ∷ l) = let rest = count_of-without_same f l in dite (ℕ_discrete x.0 f)
-    (λ e. let a = ap (λ m. count_of f m) (without-same f x l e) in omega arith)
-    (λ no. let n : hits f x ≡ 0 = ap (λ (b : Bool). cond b 1 0) (ne_eqb x.0 f no) in
-    let a = ap (λ m. count_of f m) (without-other f x l no) in let b = count_of-cons f x (without f l) in omega arith)
+count_of-without_same f (x ∷ l) = let rest = count_of-without_same f l in grind (arith, common_steps, count_of-cons f x (without f l))
 
 -- a store makes its frame unmarked, and no other
 pub unmarked-store_other : (v : View) (frame : FrameNo) (f : ℕ) → f ≢ frame.0 → count_of f (with_unmarked v frame) ≡ times_unmarked f v
-unmarked-store_other v frame f ne = by_bit (eqb (times_unmarked frame.0 v) 0) where
-  by_bit : (b : Bool) → count_of f (cond b (v.unmarked ++ frame ∷ []) v.unmarked) ≡ times_unmarked f v
-  by_bit true = let a = sum_by_push (λ (y : FrameNo). cond (eqb y.0 f) 1 0) v.unmarked frame in
-      a ∙ ap (λ (c : Bool). count_of f v.unmarked + cond c 1 0) (ne_eqb frame.0 f (λ q. ne (sym q))) ∙ omega arith
-  by_bit false = refl
+unmarked-store_other v frame f ne = grind (arith, common_steps, sum_by_push (λ (y : FrameNo). cond (eqb y.0 f) 1 0) v.unmarked frame)
 
 pub unmarked-store_same : (v : View) (frame : FrameNo) → 0 < count_of frame.0 (with_unmarked v frame)
-unmarked-store_same v frame = dite (ℕ_discrete (times_unmarked frame.0 v) 0)
-    (λ e. subst (λ (b : Bool). 0 < count_of frame.0 (cond b (v.unmarked ++ frame ∷ []) v.unmarked)) (sym (eq-eqb (times_unmarked frame.0 v) 0 e))
-    (let a = sum_by_push (λ (y : FrameNo). cond (eqb y.0 frame.0) 1 0) v.unmarked frame in
-    let b : count_of frame.0 (v.unmarked ++ frame ∷ []) ≡ count_of frame.0 v.unmarked + 1 = a ∙ ap (λ (c : Bool). count_of frame.0 v.unmarked + cond c 1 0) (eq-eqb frame.0 frame.0 refl) in omega arith))
-    (λ ne. subst (λ (b : Bool). 0 < count_of frame.0 (cond b (v.unmarked ++ frame ∷ []) v.unmarked)) (sym (ne_eqb (times_unmarked frame.0 v) 0 ne)) (omega arith))
+unmarked-store_same v frame = grind (arith, common_steps, sum_by_push (λ (y : FrameNo). cond (eqb y.0 frame.0) 1 0) v.unmarked frame)
 
 -- ---- general laws
 
@@ -219,23 +201,12 @@ module _ (o : Opening) (words : List ℕ) (views : List View) (i : ℕ) (v : Vie
   hand_other : (f : ℕ) → f ≢ frame.0 → hand_frame (after_store v frame c x) f ≡ hand_frame v f
   hand_other f ne = get_or-set_other v.hand frame.0 f (with_hand_store (hand_frame v frame.0) c x) None ne
 
-  stays : (m : Option HandFrame) → bit_of (is_some (with_hand_store m c x)) ≡ bit_of (is_some m)
-  stays None = refl
-  stays (Some y) = refl
-
   same_hand : (f : ℕ) → times_in_hand f (after_store v frame c x) ≡ times_in_hand f v
-  same_hand f = dite (ℕ_discrete f frame.0)
-      (λ e. subst (λ (g : ℕ). times_in_hand g (after_store v frame c x) ≡ times_in_hand g v) (sym e) (ap (λ (m : Option HandFrame). bit_of (is_some m)) hand_here ∙ stays (hand_frame v frame.0)))
-      (λ ne. ap (λ (m : Option HandFrame). bit_of (is_some m)) (hand_other f ne))
+  same_hand = (same_hand-store v.hand frame.0 c x).times
 
   -- no other view has the frame in hand
   apart : (m : ℕ) (y : View) (z : HandFrame) → m ≢ i → Has views m y → hand_frame y frame.0 ≡ Some z → ⊥
-  apart m y z ne has is = let one = in_hand-some y frame.0 z is in let most = frame_once o words views s t k frame.0 in ⊎_elim
-      (λ hand. absurd (let a = two_members_le_sum_by (λ q. times_in_hand frame.0 q) views m i y v ne has at in omega arith))
-      (λ held. let q = for_some v.held (λ h. maps_to frame.0 h.word ≡ 1) held in let r = t.held_word i v q.0 at q.1 in
-      absurd (let a = maps_le o words views s t k frame.0 (q.0).page.0 r.0 in let b : maps_to frame.0 (entry_word_of words (q.0).page.0) ≡ 1 = ap (λ w. maps_to frame.0 w) r.1 ∙ q.2 in
-      let d = member_le_sum_by (λ q. times_in_hand frame.0 q) views m y has in omega arith))
-      may.own
+  apart m y z ne has is = one_owner o words views s t k m i y v frame.0 ne has at (inl (let one = in_hand-some y frame.0 z is in omega arith)) may.own
 
   pub frames-store : Frames o (set words (cell_index o.pages o.frames o.cells frame.0 c) x) (set views i (after_store v frame c x))
   frames-store = frames-balanced o words views i v k at (cell_index o.pages o.frames o.cells frame.0 c) x (after_store v frame c x)
@@ -268,17 +239,14 @@ module _ (k : Keeper) (o : Opening) (words : List ℕ) (views : List View) (seat
       (subst (λ (w : ℕ). Frames o (set words (entry_index h.page.0) w) (set views seat (after_release v end))) (sym word)
       (frames-release o words views seat v f at h (released_word h.word pins b) end s t holds marked hand same (mapped_bit-released h.word pins b (omega arith)) (frame_of-released h.word pins b (omega arith))))
 
-  frames-step : (step : Step) → Allowed o v step → Frames o (words_after o words v step) (views_after k o words views seat v step)
-  frames-step (Take page) may = frames-take o words views seat v f at k page s may
-  frames-step Draw may = frames-draw o words views seat v f at _
-  frames-step (Load cell) may = frames-load o words views seat v f at _ cell _ (set-get_or words _ 0)
-  frames-step (Store frame cell value) may = frames-store o words views seat v frame cell value s t f at may
-  frames-step (Mark frame) may = frames-mark o words views seat v f at frame 1 (owned_in_range o words views s t f seat v frame.0 at may)
-  frames-step (Release None) may = let p = for_some v.held (MayLetGo o v) may.1 in
-      release p.0 None (pins_of (p.0).word) (bound_of (p.0).word) p.1 may.0 refl refl (omega arith) (ap (λ (m : Option Held). word_after_release m None) p.1)
-  frames-step (Release (Some d)) may = let p = for_some v.held (MayEnd o d) may.1 in
-      release p.0 (Some d) (pins_after d.call d.reply (pins_of (p.0).word)) (held_ticket (Some p.0) + 1) p.1 may.0 refl refl p.2.pins_fit (ap (λ (m : Option Held). word_after_release m (Some d)) p.1)
-
 pub steps_keep_frames : (k : Keeper) (o : Opening) (words : List ℕ) (views : List View) (seat : ℕ) (v : View) (step : Step) → Has views seat v → Shaped o words → Turn o words views → Frames o words views → Allowed o v step
     → Frames o (words_after o words v step) (views_after k o words views seat v step)
-steps_keep_frames k o words views seat v step at s t f may = frames-step k o words views seat v f at s t step may
+steps_keep_frames k o words views seat v (Take page) at s t f may = frames-take o words views seat v f at k page s may
+steps_keep_frames k o words views seat v Draw at s t f may = frames-draw o words views seat v f at _
+steps_keep_frames k o words views seat v (Load cell) at s t f may = frames-load o words views seat v f at _ cell _ (set-get_or words _ 0)
+steps_keep_frames k o words views seat v (Store frame cell value) at s t f may = frames-store o words views seat v frame cell value s t f at may
+steps_keep_frames k o words views seat v (Mark frame) at s t f may = frames-mark o words views seat v f at frame 1 (owned_in_range o words views s t f seat v frame.0 at may)
+steps_keep_frames k o words views seat v (Release None) at s t f may = let p = for_some v.held (MayLetGo o v) may.1 in
+    release k o words views seat v f at s t p.0 None (pins_of (p.0).word) (bound_of (p.0).word) p.1 may.0 refl refl (omega arith) (ap (λ (m : Option Held). word_after_release m None) p.1)
+steps_keep_frames k o words views seat v (Release (Some d)) at s t f may = let p = for_some v.held (MayEnd o d) may.1 in
+    release k o words views seat v f at s t p.0 (Some d) (pins_after d.call d.reply (pins_of (p.0).word)) (held_ticket (Some p.0) + 1) p.1 may.0 refl refl p.2.pins_fit (ap (λ (m : Option Held). word_after_release m (Some d)) p.1)

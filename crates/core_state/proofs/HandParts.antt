@@ -2,40 +2,17 @@
 use Rattle.std.proofs.Common.{◌≡◌, ℕ, ◌+◌, ◌-◌, ◌<◌, ◌≤◌, ◌⊎◌, List, ◌++◌, length, length-append, length-take, length-drop, get_or, take, drop, replicate, ap, ◌∙◌, inl, inr, ⊎_elim, arith, None}
 use mathlib.Core.Logic.{dite}
 use native.Mathlib.Decide.{dec_le}
-use Rattle.std.proofs.lemmas.List.{length-replicate, get_or_append_left, get_or-append_right, get_or-replicate, get_or-take, get_or-drop}
+use Rattle.std.proofs.lemmas.List.{length-replicate, get_or-replicate, get_or-take, get_or-drop}
+use Rattle.evac_model.proofs.Lists.{get_or-before_part, get_or-in_part, get_or-after_part}
 use Rattle.core_state.specs.declared.opening.Opening.{Opening}
 use Rattle.core_state.specs.declared.view.View.{View}
 use Rattle.core_state.specs.Views.{hand_frame}
 use Rattle.core_state.specs.HandOvers.{MayHandOver, hand_without, hand_with}
 
--- ---- a list of which a part is replaced
-
-module _ {A : Type 0} (xs mid : List A) (a n : ℕ) (d : A) (size : length mid ≡ n) (fits : a + n ≤ length xs) where
-  length-front : length (take a xs) ≡ a
-  length-front = length-take a xs ∙ omega arith
-
-  length-front_and_mid : length (take a xs ++ mid) ≡ a + n
-  length-front_and_mid = length-append (take a xs) mid ∙ (let f = length-front in omega arith)
-
-  pub get_or-before_part : (k : ℕ) → k < a → get_or (take a xs ++ mid ++ drop (a + n) xs) k d ≡ get_or xs k d
-  get_or-before_part k lt = let f = length-front in let b = length-front_and_mid in
-      get_or_append_left (take a xs ++ mid) (drop (a + n) xs) d k (omega arith)
-      ∙ get_or_append_left (take a xs) mid d k (omega arith) ∙ get_or-take a xs k d lt
-
-  pub get_or-in_part : (k : ℕ) → a ≤ k → k < a + n → get_or (take a xs ++ mid ++ drop (a + n) xs) k d ≡ get_or mid (k - a) d
-  get_or-in_part k low high = let b = length-front_and_mid in
-      get_or_append_left (take a xs ++ mid) (drop (a + n) xs) d k (omega arith)
-      ∙ get_or-append_right (take a xs) mid a k d length-front low
-
-  pub get_or-after_part : (k : ℕ) → a + n ≤ k → get_or (take a xs ++ mid ++ drop (a + n) xs) k d ≡ get_or xs k d
-  get_or-after_part k high =
-      let q : a + n + (k - (a + n)) ≡ k = omega arith in
-      get_or-append_right (take a xs ++ mid) (drop (a + n) xs) (a + n) k d length-front_and_mid high
-      ∙ get_or-drop (a + n) xs (k - (a + n)) d ∙ ap (λ (j : ℕ). get_or xs j d) q
-
-  -- the list is as long as it was
-  pub length-parts : length (take a xs ++ mid ++ drop (a + n) xs) ≡ length xs
-  length-parts = let b = length-front_and_mid in let c = length-append (take a xs ++ mid) (drop (a + n) xs) in let e = length-drop (a + n) xs in omega arith
+module _ {A : Type 0} (xs mid : List A) (a n : ℕ) (size : length mid ≡ n) (fits : a + n ≤ length xs) where
+  -- a list of which a part is replaced is as long as it was
+  length-parts : length (take a xs ++ mid ++ drop (a + n) xs) ≡ length xs
+  length-parts = omega (arith, length-append (take a xs ++ mid) (drop (a + n) xs), length-append (take a xs) mid, length-take a xs, length-drop (a + n) xs)
 
 -- ---- the two hands
 
@@ -56,10 +33,10 @@ module _ (o : Opening) (giver receiver : View) (first n : ℕ) (may : MayHandOve
   length-given = length-take n (drop first giver.hand) ∙ (let a = length-drop first giver.hand in let b = giver_fits in omega arith)
 
   pub length-without : length (hand_without giver.hand first n) ≡ length giver.hand
-  length-without = length-parts giver.hand (replicate n None) first n None (length-replicate n None) giver_fits
+  length-without = length-parts giver.hand (replicate n None) first n (length-replicate n None) giver_fits
 
   pub length-with : length (hand_with receiver.hand giver.hand first n) ≡ length receiver.hand
-  length-with = length-parts receiver.hand (take n (drop first giver.hand)) first n None length-given receiver_fits
+  length-with = length-parts receiver.hand (take n (drop first giver.hand)) first n length-given receiver_fits
 
   -- a frame that is handed over
   pub left_giver : (f : ℕ) → first ≤ f → f < first + n → get_or (hand_without giver.hand first n) f None ≡ None

@@ -1,7 +1,8 @@
 -- What a seat holds before and after a step.
-use Rattle.std.proofs.Common.{◌≡◌, ℕ, eqb, cond, Bool, true, false, eq-eqb, ne_eqb, ◌<◌, ◌≢◌, set, get_or, sym, refl, ap, ◌∙◌, Option, Some, None, IsSome}
+use Rattle.std.proofs.Common.{◌≡◌, ℕ, eqb, cond, Bool, true, false, eq-eqb, ne_eqb, ◌<◌, ◌≢◌, set, get_or, sym, refl, ap, ◌∙◌, arith, Option, Some, None, IsSome}
 use Rattle.std.specs.Prelude.{IsSomeAnd}
 use Rattle.std.proofs.lemmas.Option.{same_Some, none-some}
+use Rattle.std.proofs.lemmas.Grind.{common_steps}
 use Rattle.evac_model.specs.declared.names.PageNo.{PageNo}
 use Rattle.evac_words.specs.Word.{taken_bit}
 use Rattle.core_state.specs.declared.held.Held.{Held}
@@ -36,11 +37,13 @@ holds_page-same page m h e s = ap (λ x. holds_page page x) e ∙ ap (λ (b : Bo
 pub holds_page-other : (page : ℕ) (m : Option Held) (h : Held) → m ≡ Some h → h.page.0 ≢ page → holds_page page m ≡ 0
 holds_page-other page m h e s = ap (λ x. holds_page page x) e ∙ ap (λ (b : Bool). cond b 1 0) (ne_eqb h.page.0 page s)
 
+-- who counts as a holder of the page holds it
+pub held_where : (page : ℕ) (m : Option Held) → 0 < holds_page page m → (h : Held) × (m ≡ Some h) × (h.page.0 ≡ page)
+held_where page None some = absurd (omega arith)
+held_where page (Some h) some = (h, refl, grind (arith, common_steps))
+
 pub drawn_as-take : (cells t : ℕ) (page : PageNo) (found : ℕ) → drawn_as t (held_after_take cells page found) ≡ 0
-drawn_as-take cells t page found = by_bit (eqb (taken_bit found) 0) where
-  by_bit : (b : Bool) → drawn_as t (cond b (Some (newly_held cells page found)) None) ≡ 0
-  by_bit true = refl
-  by_bit false = refl
+drawn_as-take cells t page found = grind (arith, common_steps)
 
 -- a seat that may draw, with the page that it holds
 pub record Drawing (v : View) (h : Held) : Type 0 where
@@ -89,10 +92,7 @@ held_alike-load (Some h) cell value = held_alike-some h (record h { loads = note
 
 pub held_alike-store : (m : Option Held) (frame cell value : ℕ) → HeldAlike m (with_store m frame cell value)
 held_alike-store None frame cell value = held_alike-none
-held_alike-store (Some h) frame cell value = by_bit (eqb (maps_to frame h.word) 1) where
-  by_bit : (b : Bool) → HeldAlike (Some h) (Some (cond b (record h { stores = set h.stores cell (Some value) }) h))
-  by_bit true = held_alike-some h (record h { stores = set h.stores cell (Some value) }) refl refl refl
-  by_bit false = held_alike-some h h refl refl refl
+held_alike-store (Some h) frame cell value = held_alike-some h (cond (eqb (maps_to frame h.word) 1) (record h { stores = set h.stores cell (Some value) }) h) (grind (arith, common_steps)) (grind (arith, common_steps)) (grind (arith, common_steps))
 
 -- the seat holds what it held, and has the entries, tickets, notices and right that it had
 pub record Alike (v w : View) : Type 0 where

@@ -1,7 +1,6 @@
 -- `Image` is kept by each step of a call.
 use Rattle.std.proofs.Common.{◌≡◌, ℕ, eqb, ◌<◌, ◌≤◌, ◌≢◌, List, length, get_or-set_same, get_or-set_other, set, take, sym, refl, ap, ◌∙◌, subst, ⊎_elim, arith, Option, Some, None}
 use Rattle.std.specs.Prelude.{is_some}
-use Rattle.std.specs.List.{slice_get, sum_by}
 use Rattle.std.proofs.lemmas.List.{set-get_or}
 use mathlib.Core.Logic.{dite}
 use native.Mathlib.Decide.{ℕ_discrete}
@@ -119,15 +118,12 @@ module _ (k : Keeper) (o : Opening) (words : List ℕ) (views : List View) (seat
   release h end holds scan marks = image-at_entry o words views seat v g at (held_page v.held) _ (after_release v end)
       (subst (λ (m : Option Held). held_page m < o.pages) (sym holds) (t.held_word seat v h at holds).0) scan marks
 
-  image-step : (step : Step) → Allowed o v step → Image o (words_after o words v step) (views_after k o words views seat v step)
-  image-step (Take page) may = image-at_entry o words views seat v g at page.0 _ (after_take k v page _) may.in_range refl refl
-  image-step Draw may = image-draw o words views seat v g at _
-  image-step (Load cell) may = image-load o words views seat v g at _ cell _ (set-get_or words _ 0)
-  image-step (Store frame cell value) may = image-store o words views seat v g at frame cell value may.in_range
-  image-step (Mark frame) may = image-mark o words views seat v g at frame s (owned_in_range o words views s t f seat v frame.0 at may)
-  image-step (Release None) may = let p = for_some v.held (MayLetGo o v) may.1 in release p.0 None p.1 refl refl
-  image-step (Release (Some d)) may = let p = for_some v.held (MayEnd o d) may.1 in release p.0 (Some d) p.1 refl refl
-
 pub steps_keep_image : (k : Keeper) (o : Opening) (words : List ℕ) (views : List View) (seat : ℕ) (v : View) (step : Step) → Has views seat v → Shaped o words → Turn o words views → Frames o words views → Image o words views → Allowed o v step
     → Image o (words_after o words v step) (views_after k o words views seat v step)
-steps_keep_image k o words views seat v step at s t f g may = image-step k o words views seat v g at s t f step may
+steps_keep_image k o words views seat v (Take page) at s t f g may = image-at_entry o words views seat v g at page.0 _ (after_take k v page _) may.in_range refl refl
+steps_keep_image k o words views seat v Draw at s t f g may = image-draw o words views seat v g at _
+steps_keep_image k o words views seat v (Load cell) at s t f g may = image-load o words views seat v g at _ cell _ (set-get_or words _ 0)
+steps_keep_image k o words views seat v (Store frame cell value) at s t f g may = image-store o words views seat v g at frame cell value may.in_range
+steps_keep_image k o words views seat v (Mark frame) at s t f g may = image-mark o words views seat v g at frame s (owned_in_range o words views s t f seat v frame.0 at may)
+steps_keep_image k o words views seat v (Release None) at s t f g may = let p = for_some v.held (MayLetGo o v) may.1 in release k o words views seat v g at s t f p.0 None p.1 refl refl
+steps_keep_image k o words views seat v (Release (Some d)) at s t f g may = let p = for_some v.held (MayEnd o d) may.1 in release k o words views seat v g at s t f p.0 (Some d) p.1 refl refl

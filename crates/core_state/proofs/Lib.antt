@@ -1,4 +1,5 @@
 pub mod Lists
+pub mod KnownRanges
 pub mod EntryWords
 pub mod WordsAt
 pub mod Holding
@@ -12,9 +13,7 @@ pub mod PageReleases
 pub mod Cells
 pub mod Frames
 pub mod PageCells
-pub mod PageKinds
 pub mod NoticedKept
-pub mod NoticedKinds
 pub mod FrameSteps
 pub mod ImageSteps
 pub mod SeatSteps
@@ -24,7 +23,6 @@ pub mod Histories
 pub mod Unmarked
 pub mod Rooms
 pub mod StepPlaces
-pub mod CoreSteps
 pub mod Starts
 pub mod CoreOpened
 pub mod CoreRooms
@@ -40,9 +38,6 @@ pub mod SeatParts
 pub mod NoticedHistory
 pub mod RoomMoves
 pub mod MovePlaces
-pub mod ScanRooms
 pub mod AllowedCells
-pub mod AllowedPages
 pub mod AllowedCalls
 pub mod AllowedReplies
-pub mod AllowedSteps

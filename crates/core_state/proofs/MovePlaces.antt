@@ -27,7 +27,8 @@ use Rattle.core_state.specs.MoveSteps.{InHand, MayRemap, MayMap, MayUnmap, Allow
 use Rattle.core_state.proofs.Frames.{maps_to-one, frame_once, maps_le}
 use Rattle.core_state.proofs.StepPlaces.{owned_frame}
 use Rattle.core_state.proofs.SeatSteps.{held_room}
-use Rattle.core_state.proofs.RoomMoves.{for_some_in, IsFor}
+use Rattle.core_state.proofs.RoomMoves.{for_some_in}
+use Rattle.core_state.proofs.Rooms.{IsFor}
 
 -- a page whose word has the moving bit is mapped
 pub moving_is_mapped : (w : ℕ) (m : Page) → Flagged w m → moving_bit w ≡ 1 → mapped_bit w ≡ 1

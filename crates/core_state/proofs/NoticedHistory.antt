@@ -6,7 +6,7 @@ use Rattle.evac_model.specs.declared.entry.Entry.{Entry}
 use Rattle.evac_model.specs.Page.{Page}
 use Rattle.evac_model.specs.State.{PlainState}
 use Rattle.evac_model.specs.History.{after_entries}
-use Rattle.evac_words.specs.Word.{taken_bit, moving_bit, bound_of}
+use Rattle.evac_words.specs.Word.{taken_bit, bound_of}
 use Rattle.core_state.specs.declared.noticed.Notice.{Notice}
 use Rattle.core_state.specs.declared.opening.Opening.{Opening}
 use Rattle.core_state.specs.declared.view.View.{View}
@@ -16,18 +16,14 @@ use Rattle.core_state.specs.NoticedWords.{HasEntry, HasHolder, IsNoticed}
 use Rattle.core_state.specs.Sound.{Sound}
 use Rattle.core_state.specs.Histories.{IsOpeningState, IsHistoryOf, AllLetGo}
 use Rattle.core_state.specs.Rearranged.{HasNotice}
-use Rattle.core_state.specs.NoticedHistory.{Noticed, page_then, AnsweredSince, ShowsPage, TellsHistory}
+use Rattle.core_state.specs.NoticedHistory.{WasNoticed, AnsweredSince, TellsHistory}
 use Rattle.core_state.proofs.Lists.{at_longer}
 use Rattle.core_state.proofs.Found.{uses_few, has_entry-found, has_entry-drawn}
-use Rattle.core_state.proofs.Pages.{flagged_mapped, flagged_unmapped}
 use Rattle.core_state.proofs.Histories.{IsStateAfter, states_from}
 
 -- what stands in the first part of a list stands in the list
 at_taken : (es : List Entry) (n j : ℕ) (e : Entry) → slice_get (take n es) j ≡ Some e → slice_get es j ≡ Some e
 at_taken es n j e at = ap (λ (l : List Entry). slice_get l j) (sym (take-append-drop n es)) ∙ at_longer (take n es) (drop n es) j e at
-
-shows_page : (w : ℕ) (m : Page) → moving_bit w ≡ 0 → Flagged w m → ShowsPage w m
-shows_page w m still f = record { still = still; flags = f; mapped = flagged_mapped w m f; unmapped = flagged_unmapped w m f }
 
 module _ (o : Opening) (words : List ℕ) (views : List View) (entries : List Entry) (s : Sound o words views) (h : IsHistoryOf o words views entries) where
   -- an entry of a view is one of the history
@@ -73,17 +69,17 @@ module _ (o : Opening) (words : List ℕ) (views : List View) (entries : List En
           p.bound_is;
       bound_low = low;
       free = λ free. let f = p.flags free in let l = low in
-          shows_page c.word (page_then o start entries c) f.0 (subst (λ (m : Page). Flagged c.word m) (sym (state_after (bound_of c.word - o.first) (omega arith) c.page.0)) f.1);
+          record { still = f.0; flags = subst (λ (m : Page). Flagged c.word m) (sym (state_after (bound_of c.word - o.first) (omega arith) c.page.0)) f.1 };
     } where
       low : bound_of c.word ≤ o.first + length entries
       low = let a = p.bound_low in let b = s.bounds.bound_low c.page.0 p.in_range in let d = h.count in omega arith
 
-    told : (i : ℕ) (v : View) (c : Notice) → Has views i v → Noticed v c → TellsHistory o start entries c
+    told : (i : ℕ) (v : View) (c : Notice) → Has views i v → WasNoticed v c → TellsHistory o start entries c
     told i v c has = ⊎_elim
         (λ q. tells c (s.noticed.by_right i v q.0 c has q.1))
         (λ q. tells c (s.noticed.last i v c has q))
 
-pub noticed_words_tell_the_history : (o : Opening) (words : List ℕ) (views : List View) (start : PlainState) (entries : List Entry) (i : ℕ) (v : View) (c : Notice) → Sound o words views → IsOpeningState o start → IsHistoryOf o words views entries → Has views i v → Noticed v c
+pub noticed_words_tell_the_history : (o : Opening) (words : List ℕ) (views : List View) (start : PlainState) (entries : List Entry) (i : ℕ) (v : View) (c : Notice) → Sound o words views → IsOpeningState o start → IsHistoryOf o words views entries → Has views i v → WasNoticed v c
     → TellsHistory o start entries c
 noticed_words_tell_the_history o words views start entries i v c s is h has n = told o words views entries s h start is i v c has n
 

@@ -1,4 +1,4 @@
--- `Pages` is kept by a load and by a store.
+-- `Pages` is kept by loads and stores, and so by each step of a call.
 use Rattle.std.proofs.Common.{◌≡◌, ℕ, cond, Bool, eq-eqb, ne_eqb, ◌+◌, ◌<◌, ◌≢◌, List, length, get_or, length-set, set, sym, refl, ap, ◌∙◌, subst, ⊎_elim, arith, Option, Some, None}
 use Rattle.std.proofs.lemmas.Option.{same_Some}
 use Rattle.std.proofs.lemmas.List.{set-get_or}
@@ -6,25 +6,31 @@ use mathlib.Core.Logic.{dite}
 use native.Mathlib.Decide.{ℕ_discrete}
 use Rattle.evac_model.specs.declared.names.FrameNo.{FrameNo}
 use Rattle.evac_model.specs.Page.{Page}
-use Rattle.evac_words.specs.Word.{mapped_bit, frame_of}
-use Rattle.evac_words.specs.Table.{cell_index}
+use Rattle.evac_words.specs.Word.{mapped_bit, frame_of, pins_of, bound_of}
+use Rattle.evac_words.specs.Table.{cell_index, entry_index}
 use Rattle.core_state.specs.declared.held.Held.{Held}
 use Rattle.core_state.specs.declared.opening.Opening.{Opening}
 use Rattle.core_state.specs.declared.view.View.{View}
-use Rattle.core_state.specs.Words.{next_ticket_of, entry_word_of, cells_of_frame}
+use Rattle.core_state.specs.Words.{next_ticket_of, entry_word_of, cells_of_frame, released_word}
 use Rattle.core_state.specs.Views.{Has, holders, holds_page, maps_to}
-use Rattle.core_state.specs.Parts.{Shaped, Turn}
-use Rattle.core_state.specs.Pages.{answer_at, page_now, Flagged, page_cells, patched, Agrees, mapped_as, with_stores, HeldShows, FreeShows, Pages}
+use Rattle.core_state.specs.Parts.{Shaped, Turn, Tickets, Bounds}
+use Rattle.core_state.specs.Pages.{answer_at, page_now, Flagged, page_cells, patched, Agrees, mapped_as, with_stores, HeldShows, FreeShows, Pages, number_or}
 use Rattle.core_state.specs.Frames.{Frames}
-use Rattle.core_state.specs.Steps.{MayLoad, MayStore, held_word, note, with_load, with_store, after_load, after_store}
+use Rattle.core_state.specs.Steps.{MayLoad, MayStore, held_word, note, with_load, with_store, after_load, after_store, MayLetGo, MayEnd, pins_after, held_page, held_ticket, word_after_release, entry_of, after_release, Allowed}
 use Rattle.core_state.proofs.Lists.{at_set, sum_by_kept, member_le_sum_by, two_members_le_sum_by}
-use Rattle.core_state.proofs.Holding.{for_some, holds_page-same, held_alike-store}
+use Rattle.core_state.proofs.Holding.{for_some, holds_page-same, held_alike-store, some_is, drawing}
 use Rattle.core_state.proofs.TurnSteps.{alike-load}
 use Rattle.core_state.proofs.Entries.{entry_with-kept, page_after-kept}
 use Rattle.core_state.proofs.Pages.{patched-set, patched-unset, cells-held}
-use Rattle.core_state.proofs.PageSteps.{pages-alike, page_now-kept}
+use Rattle.core_state.proofs.PageSteps.{pages-alike, page_now-kept, pages-take, pages-draw, pages-mark}
 use Rattle.core_state.proofs.Cells.{cells_of_frame-same, cells_of_frame-other, next_ticket-cell, entry_word-cell, cell_read}
-use Rattle.core_state.proofs.Frames.{maps_to-one, maps_to-is, owned}
+use Rattle.core_state.proofs.Frames.{maps_to-one, maps_to-is, owned, owned_in_range}
+use Rattle.core_state.specs.declared.keeper.Keeper.{Keeper}
+use Rattle.core_state.specs.declared.step.CallDone.{CallDone}
+use Rattle.core_state.specs.declared.step.Step.{Step}
+use Rattle.core_state.specs.declared.step.Step.TheVariants.{Take, Draw, Load, Store, Mark, Release}
+use Rattle.core_state.specs.Stepped.{words_after, views_after}
+use Rattle.core_state.proofs.PageReleases.{Ends, pages-let_go, pages-end}
 
 -- ---- load
 
@@ -162,3 +168,38 @@ module _ (o : Opening) (words : List ℕ) (views : List View) (i : ℕ) (v : Vie
             let f = t.taken_by_one h.page.0 w.0 in omega arith)) ∙ old.shows.cells on;
       };
     }
+
+-- a seat that ends its call
+pub ends : (o : Opening) (words : List ℕ) (views : List View) (seat : ℕ) (v : View) (h : Held) (u : ℕ) (d : CallDone) → Shaped o words → Turn o words views → Tickets o words views → Bounds o words views → Has views seat v → v.held ≡ Some h → h.ticket ≡ Some u
+    → Ends o words views seat v h u (entry_of v d)
+ends o words views seat v h u d s t k b at holds drawn = record {
+  shaped = s;
+  turn = t;
+  tickets = k;
+  bounds = b;
+  at = at;
+  holds = holds;
+  drawn = drawn;
+  ticket_is = ap (λ m. held_ticket m) holds ∙ ap (λ m. number_or m 0) drawn;
+  page_is = ap (λ m. held_page m) holds;
+}
+
+module _ (k : Keeper) (o : Opening) (words : List ℕ) (views : List View) (seat : ℕ) (v : View) (g : Pages o words views) (at : Has views seat v) (s : Shaped o words) (t : Turn o words views) (f : Frames o words views) (u : Tickets o words views) (b : Bounds o words views) where
+  let_go : (h : Held) → v.held ≡ Some h → MayLetGo o v h → Pages o (set words (entry_index (held_page v.held)) (word_after_release v.held None)) (set views seat (after_release v None))
+  let_go h holds may = subst (λ (m : Option Held). Pages o (set words (entry_index (held_page m)) (word_after_release m None)) (set views seat (after_release v None))) (sym holds)
+      (pages-let_go o words views seat v h (bound_of h.word) t g s at holds may)
+
+  end : (d : CallDone) (h : Held) → v.held ≡ Some h → MayEnd o d h → Pages o (set words (entry_index (held_page v.held)) (word_after_release v.held (Some d))) (set views seat (after_release v (Some d)))
+  end d h holds may = let x = some_is h.ticket may.drawn in
+      subst (λ (m : Option Held). Pages o (set words (entry_index (held_page m)) (released_word (held_word m) (pins_after d.call d.reply (pins_of (held_word m))) (held_ticket v.held + 1))) (set views seat (after_release v (Some d)))) (sym holds)
+      (pages-end o words views seat v h x.0 (entry_of v d) (ends o words views seat v h x.0 d s t u b at holds x.1) (held_ticket v.held + 1) g may.still may.pins_fit may.answered)
+
+pub steps_keep_pages : (k : Keeper) (o : Opening) (words : List ℕ) (views : List View) (seat : ℕ) (v : View) (step : Step) → Has views seat v → Shaped o words → Turn o words views → Frames o words views → Tickets o words views → Bounds o words views → Pages o words views → Allowed o v step
+    → Pages o (words_after o words v step) (views_after k o words views seat v step)
+steps_keep_pages k o words views seat v (Take page) at s t f u b g may = pages-take o words views seat v t g at k page may s
+steps_keep_pages k o words views seat v Draw at s t f u b g may = let d = drawing v may in pages-draw o words views seat v t g at d.0 u d.1 s
+steps_keep_pages k o words views seat v (Load cell) at s t f u b g may = pages-load o words views seat v cell g at may
+steps_keep_pages k o words views seat v (Store frame cell value) at s t f u b g may = pages-store o words views seat v frame cell value s t f g at may
+steps_keep_pages k o words views seat v (Mark frame) at s t f u b g may = pages-mark o words views seat v t g at frame 1 (owned_in_range o words views s t f seat v frame.0 at may)
+steps_keep_pages k o words views seat v (Release None) at s t f u b g may = let p = for_some v.held (MayLetGo o v) may.1 in let_go k o words views seat v g at s t f u b p.0 p.1 p.2
+steps_keep_pages k o words views seat v (Release (Some d)) at s t f u b g may = let p = for_some v.held (MayEnd o d) may.1 in end k o words views seat v g at s t f u b d p.0 p.1 p.2

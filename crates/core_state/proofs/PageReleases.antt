@@ -1,12 +1,11 @@
 -- `Pages` is kept by a release.
-use Rattle.std.proofs.Common.{◌≡◌, ℕ, eqb, cond, Bool, true, false, true≢false, eq-eqb, ne_eqb, zero, suc, ◌+◌, ◌-◌, ◌/◌, ◌%◌, ◌<◌, ◌≤◌, ◌≢◌, ◌⊎◌, List, [], ◌∷◌, ◌++◌, length, set, sym, refl, ap, ◌∙◌, subst, inl, inr, ⊎_elim, arith, Some, None}
+use Rattle.std.proofs.Common.{◌≡◌, ℕ, eqb, cond, Bool, true, false, eq-eqb, ne_eqb, zero, suc, ◌+◌, ◌-◌, ◌/◌, ◌%◌, ◌<◌, ◌≤◌, ◌≢◌, ◌⊎◌, List, [], ◌∷◌, ◌++◌, length, set, sym, refl, ap, ◌∙◌, subst, inl, inr, ⊎_elim, arith, Some, None}
 use Rattle.std.proofs.lemmas.Option.{same_Some, none-some}
+use Rattle.std.proofs.lemmas.Grind.{common_steps}
 use mathlib.Core.Logic.{dite}
-use native.Mathlib.Decide.{ℕ_discrete, dec_le}
+use native.Mathlib.Decide.{ℕ_discrete}
 use Rattle.evac_model.specs.declared.call.Call.{Call}
-use Rattle.evac_model.specs.declared.call.Call.TheVariants.{Alloc, Free, Read, Write, Add, Pin, Unpin}
 use Rattle.evac_model.specs.declared.reply.Reply.{Reply}
-use Rattle.evac_model.specs.declared.reply.Reply.TheVariants.{Done, Values, Old, Mapped, NotMapped, Pinned, PinLimit, NotPinned, NoFrame}
 use Rattle.evac_model.specs.declared.entry.Entry.{Entry}
 use Rattle.evac_model.specs.Page.{Page, kind_of}
 use Rattle.evac_words.specs.Word.{moving_bit, pins_of, bound_of}
@@ -23,49 +22,16 @@ use Rattle.core_state.proofs.Lists.{at_set, sum_by_kept, sum_by_replaced, two_me
 use Rattle.core_state.proofs.EntryWords.{SameFlags, moving_bit-released, mapped_bit-released, unmovable_bit-released, pins_of-released, frame_of-released}
 use Rattle.core_state.proofs.WordsAt.{entry_word-here, entry_word-other, entry_within, next_ticket-entry, cells_of_frame-before}
 use Rattle.core_state.proofs.Holding.{holds_page-same, holds_page-other}
-use Rattle.core_state.proofs.TicketSteps.{drawn-used}
+use Rattle.core_state.proofs.TicketSteps.{drawn-used, used-drawn}
 use Rattle.core_state.proofs.Entries.{entry_with-kept, entry_with-none, page_after-kept, page_after-quiet, entry_with-added_other, entry_with-added_same, entry_with-found}
 use Rattle.core_state.proofs.Pages.{page_cells-pins, length-left_as, shows-same, shows-elsewhere, free_shows-elsewhere, held_shows-elsewhere, could_be}
 use Rattle.core_state.proofs.PageSteps.{pages-at_entry}
 
 -- ---- the word that a release leaves
 
-abbrev is_done : Reply → Bool
-is_done Done = true
-is_done (Values values) = false
-is_done (Old value) = false
-is_done Mapped = false
-is_done NotMapped = false
-is_done Pinned = false
-is_done PinLimit = false
-is_done NotPinned = false
-is_done (NoFrame at) = false
-
--- a pin that is done leaves a mapped page
-pin_maps : (n : ℕ) (m : Page) → (answer_at n m Pin Done).0 ≡ Done → (answer_at n m Pin Done).1 ≡ None → ⊥
-pin_maps n None e f = true≢false (sym (ap (λ r. is_done r) e))
-pin_maps n (Some m) e f = by_bit (eqb m.pins 63) f where
-  by_bit : (b : Bool) → (cond {A = Reply × Page} b (PinLimit, Some m) (Done, Some (record m { pins = m.pins + 1 }))).1 ≡ None → ⊥
-  by_bit true g = none-some m (sym g)
-  by_bit false g = none-some (record m { pins = m.pins + 1 }) (sym g)
-
 -- a call that leaves an unmapped page leaves no pins
 pins_after-unmapped : (n : ℕ) (m : Page) (call : Call) (reply : Reply) → (answer_at n m call reply).0 ≡ reply → (answer_at n m call reply).1 ≡ None → pins_after call reply 0 ≡ 0
-pins_after-unmapped n m (Alloc kind) Done e f = refl
-pins_after-unmapped n m Free Done e f = refl
-pins_after-unmapped n m (Read first count) Done e f = refl
-pins_after-unmapped n m (Write first values) Done e f = refl
-pins_after-unmapped n m (Add cell value) Done e f = refl
-pins_after-unmapped n m Pin Done e f = absurd (pin_maps n m e f)
-pins_after-unmapped n m Unpin Done e f = refl
-pins_after-unmapped n m call (Values values) e f = refl
-pins_after-unmapped n m call (Old value) e f = refl
-pins_after-unmapped n m call Mapped e f = refl
-pins_after-unmapped n m call NotMapped e f = refl
-pins_after-unmapped n m call Pinned e f = refl
-pins_after-unmapped n m call PinLimit e f = refl
-pins_after-unmapped n m call NotPinned e f = refl
-pins_after-unmapped n m call (NoFrame at) e f = refl
+pins_after-unmapped n m call reply e f = grind (arith, common_steps)
 
 unmapped-released : (w b : ℕ) → w / 2 % 536870912 ≡ 0 → released_word w 0 b / 2 % 536870912 ≡ 0
 unmapped-released w b e = omega arith
@@ -151,20 +117,17 @@ module _ (o : Opening) (words : List ℕ) (views : List View) (i : ℕ) (v : Vie
   mine : (h.page.0 < o.pages) × (entry_word_of words h.page.0 ≡ h.word)
   mine = r.turn.held_word i v h r.at r.holds
 
-  used : 1 ≤ uses u views
-  used = drawn-used views i v h u r.at r.holds r.drawn
-
-  pub ticket_low : u < next_ticket_of words
-  ticket_low = dite (dec_le (next_ticket_of words) u) (λ high. let a = r.tickets.none_from u high in let d = used in absurd (omega arith)) (λ no. omega arith)
+  drawn : (o.first ≤ u) × (u < next_ticket_of words)
+  drawn = used-drawn o words views u r.tickets (drawn-used views i v h u r.at r.holds r.drawn)
 
   pub ticket_high : o.first ≤ u
-  ticket_high = dite (dec_le o.first u) (λ yes. yes) (λ no. let d = used in let low : u < o.first = omega arith in let a = r.tickets.none_before u low in absurd (omega arith))
+  ticket_high = drawn.0
 
   no_entry : entry_with u views ≡ None
   no_entry = let w : View = record v { held = None } in
       let a = sum_by_replaced (λ x. uses_of u x) views i v w r.at in
       let b : drawn_as u v.held ≡ 1 = ap (λ m. drawn_as u m) r.holds ∙ ap (λ m. is_at u m) r.drawn ∙ ap (λ (t : Bool). cond t 1 0) (eq-eqb u u refl) in
-      let c = r.tickets.each_once u ticket_high ticket_low in
+      let c = r.tickets.each_once u drawn.0 drawn.1 in
       let none : uses u (set views i w) ≡ 0 = omega arith in
       sym (entry_with-kept u views i v w r.at refl) ∙ entry_with-none u (set views i w) none
 
@@ -196,13 +159,13 @@ module _ (o : Opening) (words : List ℕ) (views : List View) (i : ℕ) (v : Vie
   page_other page k ne = page_after-added_other o views (set views i (ended v e)) page k e (λ q. ne (sym q ∙ r.page_is)) added
 
   page_was : page_after o views h.page.0 (u - o.first) ≡ page_now o words views h.page.0
-  page_was = let a = ticket_low in let b = ticket_high in
+  page_was = let a = drawn.1 in let b = drawn.0 in
       let q : next_ticket_of words - o.first ≡ (u - o.first) + (next_ticket_of words - u) = omega arith in
       sym (ap (λ n. page_after o views h.page.0 n) q ∙ page_after-quiet o views h.page.0 (u - o.first) (next_ticket_of words - u)
       (λ w x low high found on. let c = earlier (o.first + w) x found on in absurd (omega arith)))
 
   page_then : page_after o (set views i (ended v e)) h.page.0 (next_ticket_of words - o.first) ≡ (answer_at o.cells (page_now o words views h.page.0) e.call e.reply).1
-  page_then = let a = ticket_low in let b = ticket_high in
+  page_then = let a = drawn.1 in let b = drawn.0 in
       let q : next_ticket_of words - o.first ≡ suc (u - o.first) + (next_ticket_of words - suc u) = omega arith in
       let z : o.first + (u - o.first) ≡ u = omega arith in
       ap (λ n. page_after o (set views i (ended v e)) h.page.0 n) q

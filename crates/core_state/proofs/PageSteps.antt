@@ -1,7 +1,8 @@
 -- `Pages` is kept by steps that add no entry and store in no cell.
-use Rattle.std.proofs.Common.{◌≡◌, ℕ, suc, ◌+◌, ◌-◌, ◌<◌, ◌≢◌, bit_or, List, length, set, sym, refl, ap, ◌∙◌, subst, ⊎_elim, arith, Some, None}
+use Rattle.std.proofs.Common.{◌≡◌, ℕ, suc, ◌+◌, ◌-◌, ◌<◌, bit_or, List, length, set, sym, refl, ap, ◌∙◌, subst, ⊎_elim, arith, Some, None}
 use Rattle.std.proofs.lemmas.Option.{same_Some, none-some}
 use Rattle.std.proofs.lemmas.List.{length-replicate}
+use Rattle.std.proofs.lemmas.Grind.{common_steps}
 use mathlib.Core.Logic.{dite}
 use native.Mathlib.Decide.{ℕ_discrete}
 use Rattle.evac_model.specs.declared.names.PageNo.{PageNo}
@@ -22,7 +23,7 @@ use Rattle.core_state.specs.Steps.{MayTake, newly_held, after_take, after_draw, 
 use Rattle.core_state.proofs.Lists.{at_set, sum_by_kept, sum_by_replaced}
 use Rattle.core_state.proofs.EntryWords.{take_free, bound_of-take, same_flags-take}
 use Rattle.core_state.proofs.WordsAt.{next_ticket-elsewhere, next_ticket-here, next_ticket-entry, entry_word-elsewhere, entry_word-other, first_within, cells_of_frame-before}
-use Rattle.core_state.proofs.Holding.{Drawing, with_ticket-some, held_after_take-free, held_after_take-busy, holds_page-none, holds_page-same, holds_page-other, Alike}
+use Rattle.core_state.proofs.Holding.{Drawing, with_ticket-some, held_after_take-free, held_after_take-busy, Alike}
 use Rattle.core_state.proofs.TurnSteps.{alike-mark}
 use Rattle.core_state.proofs.Entries.{entry_with-kept, entry_with-none, page_after-kept}
 use Rattle.core_state.proofs.Pages.{agrees-nothing, with_stores-nothing, SameCells, shows-same, free_shows-elsewhere, held_shows-elsewhere}
@@ -106,24 +107,14 @@ newly_shows o words v page m sized free s = record {
 module _ (o : Opening) (words : List ℕ) (views : List View) (i : ℕ) (v : View) (t : Turn o words views) (s : Pages o words views) (at : Has views i v) where
   pub pages-take : (k : Keeper) (page : PageNo) → MayTake o v page.0 → Shaped o words
       → Pages o (set words (entry_index page.0) (bit_or (entry_word_of words page.0) 1)) (set views i (after_take k v page (entry_word_of words page.0)))
-  pages-take k page may shaped = dite (ℕ_discrete (taken_bit (entry_word_of words page.0)) 0)
-      (λ free. let e = held_after_take-free v.cells page (entry_word_of words page.0) free in
-      pages-at_entry o words views i v s at page.0 (bit_or (entry_word_of words page.0) 1) (after_take k v page (entry_word_of words page.0)) may.in_range refl
-      (λ p lt none. dite (ℕ_discrete p page.0)
-      (λ q. absurd (let a = sum_by_replaced (λ x. holds_page p x.held) views i v (after_take k v page (entry_word_of words page.0)) at in
-      let b = holds_page-same p _ _ e (sym q) in let c = holds_page-none p _ may.holds_none in omega arith))
-      (λ ne. other p lt ne (sym (sum_by_kept (λ x. holds_page p x.held) views i v (after_take k v page (entry_word_of words page.0)) at (holds_page-other p _ _ e (λ q. ne (sym q)) ∙ sym (holds_page-none p _ may.holds_none))) ∙ none)))
-      (λ h is. subst (λ (g : Held). HeldShows o words g (page_now o words views g.page.0)) (same_Some _ _ (sym e ∙ is))
-      (newly_shows o words v page (page_now o words views page.0) may.seated.cells free (s.free page.0 may.in_range (t.taken_by_one page.0 may.in_range ∙ free)))))
-      (λ busy. let e = held_after_take-busy v.cells page (entry_word_of words page.0) busy in
-      pages-at_entry o words views i v s at page.0 (bit_or (entry_word_of words page.0) 1) (after_take k v page (entry_word_of words page.0)) may.in_range refl
-      (λ p lt none. let old = sym (sum_by_kept (λ x. holds_page p x.held) views i v (after_take k v page (entry_word_of words page.0)) at (holds_page-none p _ e ∙ sym (holds_page-none p _ may.holds_none))) ∙ none in
-      dite (ℕ_discrete p page.0)
-      (λ q. absurd (let a = t.taken_by_one p lt in let b : taken_bit (entry_word_of words p) ≡ taken_bit (entry_word_of words page.0) = ap (λ r. taken_bit (entry_word_of words r)) q in busy (omega arith)))
-      (λ ne. other p lt ne old))
-      (λ h is. absurd (none-some h (sym e ∙ is)))) where
-        other : (p : ℕ) → p < o.pages → p ≢ page.0 → holders p views ≡ 0 → FreeShows o words (entry_word_of (set words (entry_index page.0) (bit_or (entry_word_of words page.0) 1)) p) (page_now o words views p)
-        other p lt ne none = subst (λ (x : ℕ). FreeShows o words x (page_now o words views p)) (sym (entry_word-other words page.0 (bit_or (entry_word_of words page.0) 1) p ne)) (s.free p lt none)
+  pages-take k page may shaped = let empty = may.holds_none in pages-at_entry o words views i v s at page.0 (bit_or (entry_word_of words page.0) 1) (after_take k v page (entry_word_of words page.0)) may.in_range refl
+      (λ p lt none. let a = sum_by_replaced (λ x. holds_page p x.held) views i v (after_take k v page (entry_word_of words page.0)) at in dite (ℕ_discrete p page.0)
+      (λ q. absurd (let b = t.taken_by_one p lt in let c : taken_bit (entry_word_of words p) ≡ taken_bit (entry_word_of words page.0) = ap (λ r. taken_bit (entry_word_of words r)) q in grind (arith, common_steps)))
+      (λ ne. subst (λ (x : ℕ). FreeShows o words x (page_now o words views p)) (sym (entry_word-other words page.0 (bit_or (entry_word_of words page.0) 1) p ne)) (s.free p lt (grind (arith, common_steps)))))
+      (λ h is. dite (ℕ_discrete (taken_bit (entry_word_of words page.0)) 0)
+      (λ free. subst (λ (g : Held). HeldShows o words g (page_now o words views g.page.0)) (same_Some _ _ (sym (held_after_take-free v.cells page (entry_word_of words page.0) free) ∙ is))
+      (newly_shows o words v page (page_now o words views page.0) may.seated.cells free (s.free page.0 may.in_range (t.taken_by_one page.0 may.in_range ∙ free))))
+      (λ busy. absurd (none-some h (sym (held_after_take-busy v.cells page (entry_word_of words page.0) busy) ∙ is))))
 
   pub pages-draw : (h : Held) → Tickets o words views → Drawing v h → Shaped o words
       → Pages o (set words 0 (next_ticket_of words + 1)) (set views i (after_draw v (next_ticket_of words)))

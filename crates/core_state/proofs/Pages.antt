@@ -1,15 +1,14 @@
 -- What shows a page goes on showing it.
 use Rattle.std.proofs.Common.{◌≡◌, ℕ, eqb, zero, suc, ◌<◌, List, [], ◌∷◌, length, get_or, set, replicate, sym, refl, ap, ◌∙◌, arith, Option, Some, None}
-use Rattle.std.specs.Prelude.{IsSomeAnd}
 use Rattle.std.proofs.lemmas.Option.{same_Some, none-some}
 use Rattle.std.proofs.lemmas.List.{length-replicate}
+use Rattle.std.proofs.lemmas.Grind.{common_steps}
 use Rattle.evac_model.specs.Page.{Page, kind_of}
-use Rattle.evac_words.specs.Word.{mapped_bit, pins_of, frame_of}
+use Rattle.evac_words.specs.Word.{mapped_bit, frame_of}
 use Rattle.core_state.specs.declared.held.Change.{Change}
-use Rattle.core_state.specs.declared.held.Change.TheVariants.{Kept, Moved, Mapped, Unmapped}
 use Rattle.core_state.specs.declared.held.Held.{Held}
 use Rattle.core_state.specs.declared.opening.Opening.{Opening}
-use Rattle.core_state.specs.Words.{cells_of_frame, kind_in}
+use Rattle.core_state.specs.Words.{cells_of_frame}
 use Rattle.core_state.specs.Pages.{Flagged, page_cells, Shows, number_or, patched, Agrees, mapped_as, with_stores, with_pins, left_as, HeldShows, FreeShows, CouldBe}
 use Rattle.core_state.proofs.EntryWords.{SameFlags}
 
@@ -52,18 +51,14 @@ with_stores-nothing n None = refl
 with_stores-nothing n (Some m) = ap (λ (l : List ℕ). Some (record m { cells = l })) (patched-nothing n m.cells)
 
 pub page_cells-pins : (n pins : ℕ) (m : Page) → page_cells n (with_pins pins m) ≡ page_cells n m
-page_cells-pins n pins None = refl
-page_cells-pins n pins (Some m) = refl
+page_cells-pins n pins m = grind (arith, common_steps)
 
 pub length-page_cells-stores : (n : ℕ) (stores : List (Option ℕ)) (m : Page) → length (page_cells n m) ≡ n → length (page_cells n (with_stores stores m)) ≡ n
 length-page_cells-stores n stores None e = e
 length-page_cells-stores n stores (Some m) e = length-patched stores m.cells ∙ e
 
 pub length-page_cells-mapped : (n : ℕ) (c : Change) (m : Page) → length (page_cells n m) ≡ n → length (page_cells n (mapped_as n c m)) ≡ n
-length-page_cells-mapped n Kept m e = e
-length-page_cells-mapped n Moved m e = e
-length-page_cells-mapped n (Mapped kind) m e = length-replicate n 0
-length-page_cells-mapped n Unmapped m e = length-replicate n 0
+length-page_cells-mapped n c m e = grind (arith, common_steps, length-replicate {A = ℕ} n 0)
 
 pub length-left_as : (n : ℕ) (h : Held) (m : Page) → length (page_cells n m) ≡ n → length (page_cells n (left_as n h m)) ≡ n
 length-left_as n h m e = length-page_cells-stores n h.stores (mapped_as n h.change m) (length-page_cells-mapped n h.change m e)
@@ -83,15 +78,6 @@ cells-held o words h m s on = s.shows.cells on ∙ page_cells-stores o.cells h.s
 pub flagged-same : (w x : ℕ) (m : Page) → SameFlags w x → Flagged x m → Flagged w m
 flagged-same w x None s f = s.low ∙ f
 flagged-same w x (Some m) s f = (s.mapped ∙ f.0, ap (λ (u : ℕ). kind_of (eqb u 0)) s.unmovable ∙ f.1, s.pins ∙ f.2)
-
--- a mapped page has the kind and the pins that its word says
-pub flagged_mapped : (w : ℕ) (m : Page) → Flagged w m → mapped_bit w ≡ 1 → IsSomeAnd m (λ p. (p.kind ≡ kind_in w) × (p.pins ≡ pins_of w))
-flagged_mapped w None f on = absurd (omega arith)
-flagged_mapped w (Some m) f on = (sym f.1, sym f.2)
-
-pub flagged_unmapped : (w : ℕ) (m : Page) → Flagged w m → mapped_bit w ≡ 0 → m ≡ None
-flagged_unmapped w None f off = refl
-flagged_unmapped w (Some m) f off = absurd (let a = f.0 in omega arith)
 
 pub shows-same : (o : Opening) (words : List ℕ) (w x : ℕ) (m : Page) → SameFlags w x → Shows o words x m → Shows o words w m
 shows-same o words w x m s p = record {

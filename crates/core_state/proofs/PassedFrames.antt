@@ -1,6 +1,6 @@
 -- Frames that go from hand to hand, one after another.
 use Rattle.std.proofs.Common.{◌≡◌, ◌≢◌, ℕ, zero, suc, ◌+◌, ◌<◌, List, [], ◌∷◌, ◌++◌, length, length-set, length-append, append_assoc, take, drop, replicate, get_or, get_or-set_same, get_or-set_other, set, sym, refl, ap, ◌∙◌, arith, Option, None}
-use Rattle.std.proofs.lemmas.List.{length-replicate, length-take-le, length-drop, take_more, drop_more, get_or-drop, replicate-append-replicate, append-nil, take-append-drop, set-get_or}
+use Rattle.std.proofs.lemmas.List.{length-replicate, length-take-le, length-drop, take_more, drop_more, get_or-drop, replicate-append-replicate, append-nil, take-append-drop, set-get_or, set-set}
 use Rattle.core_state.specs.declared.hand.HandFrame.{HandFrame}
 use Rattle.core_state.specs.declared.view.View.{View}
 use Rattle.core_state.specs.Views.{view_of, spent, hand_frame}
@@ -9,11 +9,6 @@ use Rattle.core_state.specs.HandOvers.{hand_without, hand_with, views_after_hand
 -- ---- lists
 
 module _ {A : Type 0} where
-  set_twice : (l : List A) (i : ℕ) (a b : A) → set (set l i a) i b ≡ set l i b
-  set_twice [] i a b = refl
-  set_twice (x ∷ l) zero a b = refl
-  set_twice (x ∷ l) (suc i) a b = ap (λ m. x ∷ m) (set_twice l i a b)
-
   pub set_swap : (l : List A) (i j : ℕ) (a b : A) → i ≢ j → set (set l i a) j b ≡ set (set l j b) i a
   set_swap [] i j a b ne = refl
   set_swap (x ∷ l) zero zero a b ne = absurd (ne refl)
@@ -25,9 +20,9 @@ module _ {A : Type 0} where
   both_twice : (l : List A) (i j : ℕ) (a b c d : A) → i ≢ j → set (set (set (set l i a) j b) i c) j d ≡ set (set l i c) j d
   both_twice l i j a b c d ne =
       ap (λ m. set (set m i c) j d) (set_swap l i j a b ne)
-      ∙ ap (λ m. set m j d) (set_twice (set l j b) i a c)
+      ∙ ap (λ m. set m j d) (set-set (set l j b) i a c)
       ∙ ap (λ m. set m j d) (set_swap l j i b c (λ e. ne (sym e)))
-      ∙ set_twice (set l i c) j b d
+      ∙ set-set (set l i c) j b d
 
   -- the item behind some others
   set_behind : (p q : List A) (x y : A) → set (p ++ y ∷ q) (length p) x ≡ p ++ x ∷ [] ++ q

@@ -1,5 +1,5 @@
 -- Views that have what sound ones had are sound.
-use Rattle.std.proofs.Common.{◌≡◌, ◌⊎◌, ℕ, eqb, cond, Bool, ne_eqb, zero, suc, ◌+◌, ◌-◌, ◌<◌, ◌≤◌, max, List, [], ◌∷◌, length, slice_get, slice_index, sym, refl, ap, ◌∙◌, subst, inl, inr, ⊎_elim, arith, Option, Some, None, IsSome}
+use Rattle.std.proofs.Common.{◌≡◌, ◌⊎◌, ℕ, ◌+◌, ◌-◌, max, List, [], length, slice_get, slice_index, sym, refl, ap, ◌∙◌, subst, inl, inr, ⊎_elim, arith, Option, Some, None}
 use Rattle.std.proofs.lemmas.Option.{same_Some, none-some}
 use mathlib.Core.Logic.{dite}
 use native.Mathlib.Decide.{ℕ_discrete}
@@ -22,17 +22,10 @@ use Rattle.core_state.specs.Image.{Image}
 use Rattle.core_state.specs.Sound.{Sound}
 use Rattle.core_state.specs.Rearranged.{SomeView, GoesOn, Rearranged}
 use Rattle.core_state.proofs.Lists.{member_le_sum_by, two_members_le_sum_by, sum_by_member}
-use Rattle.core_state.proofs.Holding.{holds_page-same}
+use Rattle.core_state.proofs.Holding.{holds_page-same, held_where}
 use Rattle.core_state.proofs.SeatSteps.{held_room, hand_room}
 use Rattle.core_state.proofs.Entries.{page_after-kept, entry_with-found}
 use Rattle.core_state.proofs.Found.{entry_with-has, has_entry-found, uses_few, latest-le}
-
--- a view that counts as a holder of the page holds it
-holds : (page : ℕ) (m : Option Held) → 0 < holds_page page m → (h : Held) × (m ≡ Some h) × (h.page.0 ≡ page)
-holds page None p = absurd (omega arith)
-holds page (Some h) p = dite (ℕ_discrete h.page.0 page)
-    (λ q. (h, refl, q))
-    (λ ne. absurd (let a : holds_page page (Some h) ≡ 0 = ap (λ (b : Bool). cond b 1 0) (ne_eqb h.page.0 page ne) in omega arith))
 
 module _ (o : Opening) (words : List ℕ) (views other : List View) (s : Sound o words views) (r : Rearranged o views other) where
   -- ---- the same history
@@ -60,7 +53,7 @@ module _ (o : Opening) (words : List ℕ) (views other : List View) (s : Sound o
       let one = member_le_sum_by (λ x. holds_page p.hold.page.0 x.held) views p.seat p.view p.has in
       let same = r.holders p.hold.page.0 in
       let m = sum_by_member (λ x. holds_page p.hold.page.0 x.held) other (omega arith) in
-      let g = holds p.hold.page.0 m.1.held m.3 in
+      let g = held_where p.hold.page.0 m.1.held m.3 in
       let q = (r.each m.0 m.1 m.2).holds g.0 g.1 in
       dite (ℕ_discrete q.seat p.seat)
       (λ e. let v : q.view ≡ p.view = same_Some q.view p.view (sym q.has ∙ ap (λ k. slice_get views k) e ∙ p.has) in

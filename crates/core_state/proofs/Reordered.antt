@@ -1,7 +1,8 @@
 -- Views in another order, with and without spent ones.
-use Rattle.std.proofs.Common.{◌≡◌, ℕ, zero, suc, ◌⊎◌, List, [], ◌∷◌, ◌++◌, replicate, IsPermutation, sym, refl, ap, ◌∙◌, subst, inl, inr, ⊎_elim, arith, Some}
+use Rattle.std.proofs.Common.{◌≡◌, ℕ, zero, suc, ◌*◌, ◌⊎◌, List, [], ◌∷◌, ◌++◌, replicate, IsPermutation, sym, refl, ap, ◌∙◌, subst, inl, inr, ⊎_elim, arith, Some}
 use Rattle.std.specs.List.{sum_by}
-use Rattle.std.proofs.lemmas.List.Sums.{sum_by-cons, sum_by-append}
+use Rattle.std.proofs.lemmas.List.Folds.{sum_by-replicate}
+use Rattle.std.proofs.lemmas.List.Sums.{sum_by-append}
 use Rattle.std.proofs.lemmas.List.Sorted.{sum_by-IsPermutation, Contains-permutation, IsPermutation-sym}
 use Rattle.std.proofs.lemmas.Option.{same_Some, none-some, slice_get_within, slice_get-get_or, get_or_from_slice_get}
 use Rattle.std.specs.List.{slice_get}
@@ -52,12 +53,8 @@ had_spent o views = record {
   places = inr (inr refl);
 }
 
-weighs_nothing : (f : View → ℕ) (n : ℕ) → f spent ≡ 0 → sum_by f (replicate n spent) ≡ 0
-weighs_nothing f zero z = refl
-weighs_nothing f (suc n) z = omega (arith, sum_by-cons f spent (replicate n spent), weighs_nothing f n z)
-
 same_weight : (f : View → ℕ) (views : List View) (n : ℕ) → f spent ≡ 0 → sum_by f (views ++ replicate n spent) ≡ sum_by f views
-same_weight f views n z = omega (arith, sum_by-append f views (replicate n spent), weighs_nothing f n z)
+same_weight f views n z = let a = sum_by-append f views (replicate n spent) in let b = sum_by-replicate f n spent ∙ ap (λ (k : ℕ). n * k) z in omega arith
 
 -- a view is one of these, or spent
 or_spent : (views : List View) (n k : ℕ) (v : View) → Has (views ++ replicate n spent) k v → Has views k v ⊎ (v ≡ spent)

@@ -1,7 +1,7 @@
 -- A seat at rest can be split, and a seat at rest can be joined into another.
-use Rattle.std.proofs.Common.{◌≡◌, ℕ, zero, suc, ◌+◌, ◌-◌, ◌<◌, ◌≤◌, ◌≢◌, ◌⊎◌, ◌&&◌, ◌||◌, not, cond, Bool, true, false, List, [], ◌∷◌, length, get_or, sym, refl, ap, ◌∙◌, inl, inr, ⊎_elim, arith, Option, Some, None, IsSome}
+use Rattle.std.proofs.Common.{◌≡◌, ℕ, zero, suc, ◌+◌, ◌-◌, ◌<◌, ◌≤◌, ◌≢◌, ◌⊎◌, ◌||◌, not, cond, Bool, true, false, List, [], ◌∷◌, length, get_or, sym, refl, ap, ◌∙◌, inl, inr, ⊎_elim, arith, Option, Some, None, IsSome}
 use Rattle.std.specs.Prelude.{is_some}
-use Rattle.std.proofs.lemmas.Option.{none-some}
+use Rattle.std.proofs.lemmas.Grind.{common_steps}
 use mathlib.Core.Logic.{dite}
 use native.Mathlib.Decide.{dec_le}
 use Rattle.evac_words.specs.Word.{bit_of}
@@ -22,39 +22,26 @@ length-frames_where : (pick : ℕ → Bool) (xs : List (Option HandFrame)) → l
 length-frames_where pick [] = refl
 length-frames_where pick (x ∷ xs) = ap suc (length-frames_where (λ i. pick (suc i)) xs)
 
-no_frame : (b : Bool) → ◌≡◌ {A = Option HandFrame} None (cond b None None)
-no_frame true = refl
-no_frame false = refl
-
 frame_where : (pick : ℕ → Bool) (xs : List (Option HandFrame)) (f : ℕ) → get_or (frames_where pick xs) f None ≡ cond (pick f) (get_or xs f None) None
-frame_where pick [] f = no_frame (pick f)
+frame_where pick [] f = grind (arith, common_steps)
 frame_where pick (x ∷ xs) zero = refl
 frame_where pick (x ∷ xs) (suc f) = frame_where (λ i. pick (suc i)) xs f
 
 right_where : (pick : ℕ → Bool) (xs : List Bool) (page : ℕ) → get_or (rights_where pick xs) page false ≡ cond (pick page) (get_or xs page false) false
-right_where pick [] page = by_bit (pick page) where
-  by_bit : (b : Bool) → false ≡ cond b false false
-  by_bit true = refl
-  by_bit false = refl
-right_where pick (x ∷ xs) zero = by_bit (pick 0) where
-  by_bit : (b : Bool) → (b && x) ≡ cond b x false
-  by_bit true = refl
-  by_bit false = refl
+right_where pick [] page = grind (arith, common_steps)
+right_where pick (x ∷ xs) zero = grind (arith, common_steps)
 right_where pick (x ∷ xs) (suc page) = right_where (λ i. pick (suc i)) xs page
 
 -- what is picked and what isn't make up the whole
 both_frames : (b : Bool) (m : Option HandFrame) → bit_of (is_some (cond (not b) m None)) + bit_of (is_some (cond b m None)) ≡ bit_of (is_some m)
-both_frames true m = omega arith
-both_frames false m = omega arith
+both_frames b m = grind (arith, common_steps)
 
 both_rights : (b x : Bool) → bit_of (cond (not b) x false) + bit_of (cond b x false) ≡ bit_of x
-both_rights true x = omega arith
-both_rights false x = omega arith
+both_rights b x = grind (arith, common_steps)
 
 -- a frame that was picked was there
 was_some : (b : Bool) (m : Option HandFrame) (x : HandFrame) → cond b m None ≡ Some x → m ≡ Some x
-was_some true m x e = e
-was_some false m x e = absurd (none-some x e)
+was_some b m x e = grind (arith, common_steps)
 
 pub seats_can_be_split : (o : Opening) (v : View) (caller : Option ℕ) (tickets : ℕ) (frames pages : ℕ → Bool) → IsAtRest o v → tickets ≤ v.left → (0 < tickets → IsSome caller)
     → Splits o v (kept_part v tickets frames pages) (given_part v caller tickets frames pages)
@@ -94,42 +81,27 @@ length-hand_of_both [] ys e = sym e
 length-hand_of_both (x ∷ xs) [] e = refl
 length-hand_of_both (x ∷ xs) (y ∷ ys) e = ap suc (length-hand_of_both xs ys (omega arith))
 
-frame_alone : (m : Option HandFrame) → m ≡ frame_of_both m None
-frame_alone None = refl
-frame_alone (Some x) = refl
-
 frame_in_both : (xs ys : List (Option HandFrame)) (f : ℕ) → get_or (hand_of_both xs ys) f None ≡ frame_of_both (get_or xs f None) (get_or ys f None)
 frame_in_both [] ys f = refl
-frame_in_both (x ∷ xs) [] zero = frame_alone x
-frame_in_both (x ∷ xs) [] (suc f) = frame_alone (get_or xs f None)
+frame_in_both (x ∷ xs) [] f = grind (arith, common_steps)
 frame_in_both (x ∷ xs) (y ∷ ys) zero = refl
 frame_in_both (x ∷ xs) (y ∷ ys) (suc f) = frame_in_both xs ys f
 
-right_alone : (b : Bool) → b ≡ (b || false)
-right_alone true = refl
-right_alone false = refl
-
 right_in_both : (xs ys : List Bool) (page : ℕ) → get_or (rights_of_both xs ys) page false ≡ (get_or xs page false || get_or ys page false)
 right_in_both [] ys page = refl
-right_in_both (x ∷ xs) [] zero = right_alone x
-right_in_both (x ∷ xs) [] (suc page) = right_alone (get_or xs page false)
+right_in_both (x ∷ xs) [] page = grind (arith, common_steps)
 right_in_both (x ∷ xs) (y ∷ ys) zero = refl
 right_in_both (x ∷ xs) (y ∷ ys) (suc page) = right_in_both xs ys page
 
 -- where not both are there, one count is the sum
 one_frame : (m n : Option HandFrame) → bit_of (is_some m) + bit_of (is_some n) ≤ 1 → bit_of (is_some (frame_of_both m n)) ≡ bit_of (is_some m) + bit_of (is_some n)
-one_frame None n few = omega arith
-one_frame (Some x) None few = refl
-one_frame (Some x) (Some y) few = absurd (omega arith)
+one_frame m n few = grind (arith, common_steps)
 
 one_right : (b c : Bool) → bit_of b + bit_of c ≤ 1 → bit_of (b || c) ≡ bit_of b + bit_of c
-one_right false c few = omega arith
-one_right true false few = refl
-one_right true true few = absurd (omega arith)
+one_right b c few = grind (arith, common_steps)
 
 from_both : (m n : Option HandFrame) (x : HandFrame) → frame_of_both m n ≡ Some x → (m ≡ Some x) ⊎ (n ≡ Some x)
-from_both None n x e = inr e
-from_both (Some y) n x e = inl e
+from_both m n x e = grind (arith, common_steps)
 
 pub seats_can_be_joined : (o : Opening) (words : List ℕ) (views : List View) (seat gone : ℕ) (v w : View) → Sound o words views → Has views seat v → Has views gone w → seat ≢ gone → IsSeated o v → IsAtRest o w → ((h : Held) → v.held ≡ Some h → right_to h.page.0 w ≡ 0)
     → Joins o v w (joined_view v w)
@@ -142,6 +114,7 @@ seats_can_be_joined o words views seat gone v w s at_v at_w apart seated rests n
   entries = refl;
   by_right = refl;
   last = refl;
+  by_ticket = refl;
   caller = refl;
   left = refl;
   seen = refl;

@@ -1,10 +1,11 @@
 -- `Seats` is kept by each step of a call.
-use Rattle.std.proofs.Common.{◌≡◌, ◌⊎◌, ℕ, zero, suc, eqb, cond, Bool, true, false, ◌<◌, List, [], ◌∷◌, length, length-set, get_or, set, sym, refl, ap, ◌∙◌, subst, inl, inr, ⊎_elim, arith, Option, Some, None}
+use Rattle.std.proofs.Common.{◌≡◌, ◌⊎◌, ℕ, zero, suc, eqb, cond, true, false, List, [], ◌∷◌, length, length-set, get_or, set, sym, refl, ap, ◌∙◌, subst, inr, ⊎_elim, arith, Option, Some, None}
 use Rattle.std.specs.Prelude.{is_some, IfSome}
 use Rattle.std.proofs.lemmas.List.{length-replicate}
 use Rattle.std.proofs.lemmas.Option.{same_Some, none-some}
+use Rattle.std.proofs.lemmas.Grind.{common_steps}
 use Rattle.evac_model.specs.declared.names.PageNo.{PageNo}
-use Rattle.evac_words.specs.Word.{taken_bit, mapped_bit, bit_of}
+use Rattle.evac_words.specs.Word.{mapped_bit, bit_of}
 use Rattle.core_state.specs.declared.actions.Actions.{Actions}
 use Rattle.core_state.specs.declared.hand.HandFrame.{HandFrame}
 use Rattle.core_state.specs.declared.held.Held.{Held}
@@ -16,7 +17,7 @@ use Rattle.core_state.specs.declared.step.Step.TheVariants.{Take, Draw, Load, St
 use Rattle.core_state.specs.declared.view.View.{View}
 use Rattle.core_state.specs.Views.{Has, IsSeated, spent, hand_frame, maps_to, Owns, keeps_journal}
 use Rattle.core_state.specs.Seats.{IsHeldRoom, IsSeat, Seats}
-use Rattle.core_state.specs.Steps.{MayLetGo, MayEnd, newly_held, held_after_take, with_ticket, with_load, with_store, with_hand_store, note, after_take, after_draw, after_load, after_store, after_mark, after_release, Allowed}
+use Rattle.core_state.specs.Steps.{MayLetGo, MayEnd, held_after_take, with_ticket, with_load, with_store, with_hand_store, note, after_take, after_draw, after_load, after_store, after_mark, after_release, Allowed}
 use Rattle.core_state.specs.Stepped.{word_found, views_after}
 use Rattle.core_state.proofs.Lists.{at_set, sum_by_kept}
 use Rattle.core_state.proofs.Holding.{for_some, drawing}
@@ -44,8 +45,7 @@ same_room-ticket None t = same_room-none
 same_room-ticket (Some h) t = same_room-some h (record h { ticket = Some t }) refl refl
 
 length-note : (m : Option ℕ) (loads : List (Option ℕ)) (cell x : ℕ) → length (note m loads cell x) ≡ length loads
-length-note None loads cell x = length-set loads cell (Some x)
-length-note (Some y) loads cell x = refl
+length-note m loads cell x = grind (arith, common_steps, length-set loads cell (Some x))
 
 pub same_room-load : (m : Option Held) (cell x : ℕ) → SameRoom m (with_load m cell x)
 same_room-load None cell x = same_room-none
@@ -53,10 +53,8 @@ same_room-load (Some h) cell x = same_room-some h (record h { loads = note (get_
 
 pub same_room-store : (m : Option Held) (frame cell x : ℕ) → SameRoom m (with_store m frame cell x)
 same_room-store None frame cell x = same_room-none
-same_room-store (Some h) frame cell x = by_bit (eqb (maps_to frame h.word) 1) where
-  by_bit : (b : Bool) → SameRoom (Some h) (Some (cond b (record h { stores = set h.stores cell (Some x) }) h))
-  by_bit true = same_room-some h (record h { stores = set h.stores cell (Some x) }) refl (length-set h.stores cell (Some x))
-  by_bit false = same_room-some h h refl refl
+same_room-store (Some h) frame cell x = same_room-some h (cond (eqb (maps_to frame h.word) 1) (record h { stores = set h.stores cell (Some x) }) h)
+    (grind (arith, common_steps)) (grind (arith, common_steps, length-set h.stores cell (Some x)))
 
 -- ---- the hand before and after, each frame in its place
 
@@ -69,8 +67,7 @@ same_hand m n e = subst (λ (l : List (Option HandFrame)). SameHand m l) (sym e)
 
 times-store : (l : List (Option HandFrame)) (i cell x f : ℕ) → bit_of (is_some (get_or (set l i (with_hand_store (get_or l i None) cell x)) f None)) ≡ bit_of (is_some (get_or l f None))
 times-store [] i cell x f = refl
-times-store (None ∷ l) zero cell x zero = refl
-times-store (Some y ∷ l) zero cell x zero = refl
+times-store (m ∷ l) zero cell x zero = grind (arith, common_steps)
 times-store (m ∷ l) zero cell x (suc f) = refl
 times-store (m ∷ l) (suc i) cell x zero = refl
 times-store (m ∷ l) (suc i) cell x (suc f) = times-store l i cell x f
@@ -149,38 +146,28 @@ seat-same o v w s cells size scan room hand = seat-kept o v w s cells size scan
 
 -- ---- the steps
 
-module _ (k : Keeper) (o : Opening) (words : List ℕ) (views : List View) (seat : ℕ) (v : View) (at : Has views seat v) (s : Seats o views) where
-  take_held : (page : PageNo) (found : ℕ) → v.cells ≡ o.cells → (h : Held) → held_after_take v.cells page found ≡ Some h → IsHeldRoom o.cells h
-  take_held page found size = by_bit (eqb (taken_bit found) 0) where
-    by_bit : (b : Bool) (h : Held) → cond b (Some (newly_held v.cells page found)) None ≡ Some h → IsHeldRoom o.cells h
-    by_bit true h e = let q = same_Some (newly_held v.cells page found) h e in record {
-      loads = ap (λ (x : Held). length x.loads) (sym q) ∙ length-replicate v.cells None ∙ size;
-      stores = ap (λ (x : Held). length x.stores) (sym q) ∙ length-replicate v.cells None ∙ size;
-    }
-    by_bit false h e = absurd (none-some h e)
-
-  seats-step : (step : Step) → Allowed o v step → Seats o (views_after k o words views seat v step)
-  seats-step (Take page) may = let is = seated_seat o v (s.each seat v at) may.seated in
-      seats-set o views s seat v at (after_take k v page (word_found o words v (Take page)))
-      (seat-kept o v (after_take k v page (word_found o words v (Take page))) is refl refl refl (take_held page (word_found o words v (Take page)) may.seated.cells) is.in_hand) refl
-  seats-step Draw may = let d = drawing v may in
-      seats-set o views s seat v at (after_draw v (word_found o words v Draw))
-      (seat-same o v (after_draw v (word_found o words v Draw)) (holding_seat o v (s.each seat v at) d.0 d.1.holds) refl refl refl (same_room-ticket v.held (word_found o words v Draw)) (same_hand v.hand v.hand refl)) refl
-  seats-step (Load cell) may = let q = for_some v.held (λ h. mapped_bit h.word ≡ 1) may.mapped in
-      seats-set o views s seat v at (after_load v cell (word_found o words v (Load cell)))
-      (seat-same o v (after_load v cell (word_found o words v (Load cell))) (holding_seat o v (s.each seat v at) q.0 q.1) refl refl refl (same_room-load v.held cell (word_found o words v (Load cell))) (same_hand v.hand v.hand refl)) refl
-  seats-step (Store frame cell value) may =
-      seats-set o views s seat v at (after_store v frame cell value)
-      (seat-same o v (after_store v frame cell value) (owning_seat o v (s.each seat v at) frame.0 may.own) refl (length-set v.hand frame.0 (with_hand_store (hand_frame v frame.0) cell value)) refl
-      (same_room-store v.held frame.0 cell value) (same_hand-store v.hand frame.0 cell value)) refl
-  seats-step (Mark frame) may =
-      seats-set o views s seat v at (after_mark v frame)
-      (seat-same o v (after_mark v frame) (owning_seat o v (s.each seat v at) frame.0 may) refl refl refl (same_room-refl v.held) (same_hand v.hand v.hand refl)) refl
-  seats-step (Release None) may = let q = for_some v.held (MayLetGo o v) may.1 in let is = holding_seat o v (s.each seat v at) q.0 q.1 in
-      seats-set o views s seat v at (after_release v None) (seat-kept o v (after_release v None) is refl refl refl (λ h e. absurd (none-some h e)) is.in_hand) refl
-  seats-step (Release (Some d)) may = let q = for_some v.held (MayEnd o d) may.1 in let is = holding_seat o v (s.each seat v at) q.0 q.1 in
-      seats-set o views s seat v at (after_release v (Some d)) (seat-kept o v (after_release v (Some d)) is refl refl refl (λ h e. absurd (none-some h e)) is.in_hand) refl
+take_held : (o : Opening) (v : View) (page : PageNo) (found : ℕ) → v.cells ≡ o.cells → (h : Held) → held_after_take v.cells page found ≡ Some h → IsHeldRoom o.cells h
+take_held o v page found size h e = grind (arith, common_steps, length-replicate {A = Option ℕ} v.cells None)
 
 pub steps_keep_seats : (k : Keeper) (o : Opening) (words : List ℕ) (views : List View) (seat : ℕ) (v : View) (step : Step) → Has views seat v → Seats o views → Allowed o v step
     → Seats o (views_after k o words views seat v step)
-steps_keep_seats k o words views seat v step at s may = seats-step k o words views seat v at s step may
+steps_keep_seats k o words views seat v (Take page) at s may = let is = seated_seat o v (s.each seat v at) may.seated in
+    seats-set o views s seat v at (after_take k v page (word_found o words v (Take page)))
+    (seat-kept o v (after_take k v page (word_found o words v (Take page))) is refl refl refl (take_held o v page (word_found o words v (Take page)) may.seated.cells) is.in_hand) refl
+steps_keep_seats k o words views seat v Draw at s may = let d = drawing v may in
+    seats-set o views s seat v at (after_draw v (word_found o words v Draw))
+    (seat-same o v (after_draw v (word_found o words v Draw)) (holding_seat o v (s.each seat v at) d.0 d.1.holds) refl refl refl (same_room-ticket v.held (word_found o words v Draw)) (same_hand v.hand v.hand refl)) refl
+steps_keep_seats k o words views seat v (Load cell) at s may = let q = for_some v.held (λ h. mapped_bit h.word ≡ 1) may.mapped in
+    seats-set o views s seat v at (after_load v cell (word_found o words v (Load cell)))
+    (seat-same o v (after_load v cell (word_found o words v (Load cell))) (holding_seat o v (s.each seat v at) q.0 q.1) refl refl refl (same_room-load v.held cell (word_found o words v (Load cell))) (same_hand v.hand v.hand refl)) refl
+steps_keep_seats k o words views seat v (Store frame cell value) at s may =
+    seats-set o views s seat v at (after_store v frame cell value)
+    (seat-same o v (after_store v frame cell value) (owning_seat o v (s.each seat v at) frame.0 may.own) refl (length-set v.hand frame.0 (with_hand_store (hand_frame v frame.0) cell value)) refl
+    (same_room-store v.held frame.0 cell value) (same_hand-store v.hand frame.0 cell value)) refl
+steps_keep_seats k o words views seat v (Mark frame) at s may =
+    seats-set o views s seat v at (after_mark v frame)
+    (seat-same o v (after_mark v frame) (owning_seat o v (s.each seat v at) frame.0 may) refl refl refl (same_room-refl v.held) (same_hand v.hand v.hand refl)) refl
+steps_keep_seats k o words views seat v (Release None) at s may = let q = for_some v.held (MayLetGo o v) may.1 in let is = holding_seat o v (s.each seat v at) q.0 q.1 in
+    seats-set o views s seat v at (after_release v None) (seat-kept o v (after_release v None) is refl refl refl (λ h e. absurd (none-some h e)) is.in_hand) refl
+steps_keep_seats k o words views seat v (Release (Some d)) at s may = let q = for_some v.held (MayEnd o d) may.1 in let is = holding_seat o v (s.each seat v at) q.0 q.1 in
+    seats-set o views s seat v at (after_release v (Some d)) (seat-kept o v (after_release v (Some d)) is refl refl refl (λ h e. absurd (none-some h e)) is.in_hand) refl

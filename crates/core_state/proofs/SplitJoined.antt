@@ -25,7 +25,7 @@ use Rattle.core_state.proofs.Rearranging.{some_here, none_unmarked, had_at_rest,
 use Rattle.core_state.proofs.Reordered.{had_spent, spent_added}
 
 -- no ticket is drawn where no page is held
-drawn_as-none : (t : ℕ) (m : Option Held) → m ≡ None → drawn_as t m ≡ 0
+pub drawn_as-none : (t : ℕ) (m : Option Held) → m ≡ None → drawn_as t m ≡ 0
 drawn_as-none t m e = ap (λ x. drawn_as t x) e
 
 -- how often entries have a ticket

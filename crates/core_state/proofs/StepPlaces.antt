@@ -1,11 +1,12 @@
 -- Where a step acts lies in the table, and the nodes and numbers that it needs are there.
-use Rattle.std.proofs.Common.{◌≡◌, ℕ, ◌+◌, ◌*◌, ◌^◌, ◌<◌, ◌≤◌, ◌≢◌, suc, List, [], length, get_or, sym, refl, ap, ◌∙◌, subst, inr, ⊎_elim, arith, suc-mul, mul-le-mul_right, Option, Some, None, IsSome}
+use Rattle.std.proofs.Common.{◌≡◌, ℕ, ◌+◌, ◌^◌, ◌<◌, ◌≤◌, List, [], length, get_or, sym, refl, ap, ◌∙◌, subst, inr, arith, Option, Some, None, IsSome}
 use Rattle.std.specs.Prelude.{IsSomeAnd, IfSome}
 use Rattle.std.specs.List.{slice_get}
 use Rattle.std.proofs.lemmas.Option.{same_Some}
 use Rattle.std.proofs.lemmas.List.{get_or_default}
+use Rattle.std.proofs.lemmas.Nat.{row_fits}
 use mathlib.Core.Logic.{dite}
-use native.Mathlib.Decide.{ℕ_discrete, dec_le}
+use native.Mathlib.Decide.{ℕ_discrete}
 use Rattle.evac_model.specs.declared.names.FrameNo.{FrameNo}
 use Rattle.evac_words.specs.Word.{mapped_bit, frame_of, pins_of}
 use Rattle.evac_words.specs.Table.{entry_index, cell_index}
@@ -14,24 +15,21 @@ use Rattle.core_state.specs.declared.opening.Opening.{Opening}
 use Rattle.core_state.specs.declared.room.Room.{Room}
 use Rattle.core_state.specs.declared.step.CallDone.{CallDone}
 use Rattle.core_state.specs.declared.view.View.{View}
-use Rattle.core_state.specs.Words.{next_ticket_of, entry_word_of}
-use Rattle.core_state.specs.Views.{Has, holds_page, times_in_hand, times_unmarked, times_unmarked_in, maps_to, Owns}
+use Rattle.core_state.specs.Views.{Has, times_unmarked, times_unmarked_in, maps_to, Owns}
 use Rattle.core_state.specs.Pages.{number_or}
 use Rattle.core_state.specs.Sound.{Sound}
 use Rattle.core_state.specs.Room.{due_of, HasRoom}
 use Rattle.core_state.specs.Steps.{MayLoad, MayLetGo, MayEnd, MayRelease, pins_after, held_page, held_word, held_ticket}
-use Rattle.core_state.proofs.Lists.{member_le_sum_by, two_members_le_sum_by, sum_by_none}
-use Rattle.core_state.proofs.Holding.{for_some, holds_page-same}
-use Rattle.core_state.proofs.Frames.{maps_to-one, frame_once, maps_le, owned, owned_in_range}
-use Rattle.core_state.proofs.TicketSteps.{drawn-used}
+use Rattle.core_state.proofs.Lists.{member_le_sum_by, sum_by_none}
+use Rattle.core_state.proofs.Holding.{for_some}
+use Rattle.core_state.proofs.Frames.{maps_to-one, owned_in_range, one_owner}
+use Rattle.core_state.proofs.TurnSteps.{holds_mine}
+use Rattle.core_state.proofs.TicketSteps.{drawn-used, used-drawn}
 use Rattle.core_state.proofs.Rooms.{due_drawn}
-
-pub row_within : (n f g : ℕ) → f < g → f * n + n ≤ g * n
-row_within n f g lt = let a : suc f * n ≤ g * n = mul-le-mul_right n lt in omega (arith, suc-mul f n)
 
 module _ (o : Opening) (words : List ℕ) (views : List View) (s : Sound o words views) where
   pub cell_within : (f c : ℕ) → f < o.frames → c < o.cells → cell_index o.pages o.frames o.cells f c < length words
-  cell_within f c low lt = let a = s.shaped.long in let b = row_within o.cells f o.frames low in omega arith
+  cell_within f c low lt = let a = s.shaped.long in let b = row_fits f o.cells o.frames o.cells low (omega arith) in omega arith
 
   pub entry_within : (page : ℕ) → page < o.pages → entry_index page < length words
   entry_within page lt = let a = s.shaped.long in omega arith
@@ -45,30 +43,13 @@ module _ (o : Opening) (words : List ℕ) (views : List View) (s : Sound o words
         let own : Owns v (frame_of (q.0).word) = inr (subst (λ (m : Option Held). IsSomeAnd m (λ h. maps_to (frame_of (q.0).word) h.word ≡ 1)) (sym q.1) (maps_to-one (frame_of (q.0).word) (q.0).word q.2 refl)) in
         subst (λ (m : Option Held). frame_of (held_word m) < o.frames) (sym q.1) (owned_frame (frame_of (q.0).word) own)
 
-    -- a frame has one owner at most
-    one_owner : (i : ℕ) (y : View) (f : ℕ) → i ≢ seat → Has views i y → Owns v f → Owns y f → ⊥
-    one_owner i y f ne has mine other = let most = frame_once o words views s.shaped s.turn s.frames f in ⊎_elim
-        (λ a. ⊎_elim
-        (λ b. absurd (let n = two_members_le_sum_by (λ q. times_in_hand f q) views i seat y v ne has at in omega arith))
-        (λ b. let q = for_some y.held (λ h. maps_to f h.word ≡ 1) b in let r = s.turn.held_word i y q.0 has q.1 in
-        absurd (let n = maps_le o words views s.shaped s.turn s.frames f (q.0).page.0 r.0 in let m : maps_to f (entry_word_of words (q.0).page.0) ≡ 1 = ap (λ w. maps_to f w) r.1 ∙ q.2 in
-        let d = member_le_sum_by (λ x. times_in_hand f x) views seat v at in omega arith))
-        other)
-        (λ a. let p = for_some v.held (λ h. maps_to f h.word ≡ 1) a in let t = s.turn.held_word seat v p.0 at p.1 in
-        let m : maps_to f (entry_word_of words (p.0).page.0) ≡ 1 = ap (λ w. maps_to f w) t.1 ∙ p.2 in
-        let g = owned o words views s.shaped s.turn s.frames i y f (p.0).page.0 has other t.0 m in
-        absurd (let n = two_members_le_sum_by (λ x. holds_page (p.0).page.0 x.held) views i seat y v ne has at in
-        let x = holds_page-same (p.0).page.0 v.held p.0 p.1 refl in let z = holds_page-same (p.0).page.0 y.held g.0 g.1 g.2 in
-        let k = s.turn.taken_by_one (p.0).page.0 t.0 in omega arith))
-        mine
-
     -- a frame that its owner has marked is unmarked in no view
     pub unmarked_nowhere : (f : ℕ) → Owns v f → times_unmarked f v ≡ 0 → times_unmarked_in f views ≡ 0
     unmarked_nowhere f own none = sum_by_none (λ x. times_unmarked f x) views (λ i y has. dite (ℕ_discrete i seat)
         (λ e. let same : v ≡ y = same_Some v y (sym at ∙ ap (λ (n : ℕ). slice_get views n) (sym e) ∙ has) in ap (λ (x : View). times_unmarked f x) (sym same) ∙ none)
         (λ ne. dite (ℕ_discrete (times_unmarked f y) 0)
         (λ z. z)
-        (λ some. absurd (one_owner i y f ne has own (s.frames.unmarked i y f has (omega arith))))))
+        (λ some. absurd (one_owner o words views s.shaped s.turn s.frames i seat y v f ne has at (s.frames.unmarked i y f has (omega arith)) own))))
 
     pub node_there : (r : Room) (f : ℕ) (node : List FrameNo) → HasRoom o views r → Owns v f → f < length r.unmarked → node ≡ get_or r.unmarked f node → times_unmarked f v ≡ 0 → 0 < length node
     node_there r f node k own lt lent none =
@@ -77,17 +58,12 @@ module _ (o : Opening) (words : List ℕ) (views : List View) (s : Sound o words
         let c = ap (λ (l : List FrameNo). length l) (lent ∙ get_or_default r.unmarked f node [] lt) in
         omega arith
 
-    pub held_in_range : (h : Held) → v.held ≡ Some h → h.page.0 < o.pages
-    held_in_range h is = (s.turn.held_word seat v h at is).0
-
     pub ticket_small : (h : Held) → v.held ≡ Some h → held_ticket (Some h) + 1 < 2 ^ 34
     ticket_small h is = by_ticket h.ticket refl where
       by_ticket : (m : Option ℕ) → h.ticket ≡ m → number_or h.ticket 0 + 1 < 2 ^ 34
       by_ticket None e = let a : number_or h.ticket 0 ≡ 0 = ap (λ (m : Option ℕ). number_or m 0) e in omega arith
       by_ticket (Some t) e = let a : number_or h.ticket 0 ≡ t = ap (λ (m : Option ℕ). number_or m 0) e in
-          dite (dec_le (next_ticket_of words) t)
-          (λ high. absurd (let b = s.tickets.none_from t high in let c = drawn-used views seat v h t at is e in omega arith))
-          (λ low. let b = s.tickets.budget_is in let c = s.tickets.budget_small in omega arith)
+          let c = used-drawn o words views t s.tickets (drawn-used views seat v h t at is e) in let d = c.1 in let b = s.tickets.budget_is in let f = s.tickets.budget_small in omega arith
 
     -- the entry of a release has a node
     pub entry_node : (r : Room) (done : Option CallDone) → HasRoom o views r → MayRelease o v done → IsSome done → 0 < length r.entries
@@ -112,4 +88,4 @@ module _ (o : Opening) (words : List ℕ) (views : List View) (s : Sound o words
     released_within done may = by_held v.held refl (release_holds done may) where
       by_held : (m : Option Held) → v.held ≡ m → IsSome m → entry_index (held_page v.held) < length words
       by_held None e some = absurd (cc)
-      by_held (Some h) e some = subst (λ (m : Option Held). entry_index (held_page m) < length words) (sym e) (entry_within h.page.0 (held_in_range h e))
+      by_held (Some h) e some = subst (λ (m : Option Held). entry_index (held_page m) < length words) (sym e) (entry_within h.page.0 (holds_mine o words views seat v s.turn at h e))

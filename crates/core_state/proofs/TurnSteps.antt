@@ -1,6 +1,7 @@
 -- `Turn` is kept by each step of a call.
 use Rattle.std.proofs.Common.{◌≡◌, ℕ, Bool, false, subst, ◌+◌, ◌<◌, ◌≤◌, ◌≢◌, ◌⊎◌, bit_or, List, length, get_or, set, sym, refl, ap, ◌∙◌, inl, inr, ⊎_elim, arith, Option, Some, None}
 use Rattle.std.proofs.lemmas.Option.{same_Some, none-some}
+use Rattle.std.proofs.lemmas.Grind.{common_steps}
 use mathlib.Core.Logic.{dite}
 use native.Mathlib.Decide.{ℕ_discrete}
 use Rattle.evac_model.specs.declared.names.PageNo.{PageNo}
@@ -22,7 +23,7 @@ use Rattle.core_state.proofs.Lists.{at_set, sum_by_kept, sum_by_replaced, two_me
 use Rattle.core_state.proofs.EntryWords.{take_again, taken_bit-released}
 use Rattle.evac_words.proofs.Words.{taken_bit-bit_or}
 use Rattle.core_state.proofs.WordsAt.{entry_word-elsewhere, entry_word-here, entry_apart, entry_within}
-use Rattle.core_state.proofs.Holding.{for_some, Drawing, drawing, with_ticket-some, held_after_take-free, held_after_take-busy, holds_page-none, holds_page-same, holds_page-other, held_alike-same, held_alike-load, held_alike-store, Alike}
+use Rattle.core_state.proofs.Holding.{for_some, Drawing, drawing, with_ticket-some, holds_page-none, holds_page-same, holds_page-other, held_alike-same, held_alike-load, held_alike-store, Alike}
 
 -- a right that is kept
 pub right_kept : (v w : View) (page : ℕ) → w.mover ≡ v.mover → right_to page w ≡ right_to page v
@@ -96,24 +97,13 @@ module _ (o : Opening) (words : List ℕ) (views : List View) (i : ℕ) (v : Vie
 
   pub turn-take : (k : Keeper) (page : PageNo) → MayTake o v page.0 → Shaped o words
       → Turn o (set words (entry_index page.0) (bit_or (entry_word_of words page.0) 1)) (set views i (after_take k v page (entry_word_of words page.0)))
-  turn-take k page may s = dite (ℕ_discrete (taken_bit (entry_word_of words page.0)) 0)
-      (λ free. let e = held_after_take-free v.cells page (entry_word_of words page.0) free in
-      turn-at_entry page.0 _ (after_take k v page (entry_word_of words page.0)) may.in_range in_words
-      (λ p ne. holds_page-other p _ _ e (λ q. ne (sym q)) ∙ sym (holds_page-none p _ may.holds_none))
-      (let a = holds_page-same page.0 _ _ e refl in let b = holds_page-none page.0 _ may.holds_none in let c = taken_bit-bit_or (entry_word_of words page.0) in omega arith)
-      (inr (free ∙ sym (holds_page-none page.0 _ may.holds_none)))
-      (λ h is. let q = same_Some _ _ (sym e ∙ is) in (sym (ap (λ (x : Held). x.page.0) q), ap (λ (x : Held). x.word) q))
-      refl)
-      (λ busy. let e = held_after_take-busy v.cells page (entry_word_of words page.0) busy in
-      let one : taken_bit (entry_word_of words page.0) ≡ 1 = omega arith in
-      turn-at_entry page.0 _ (after_take k v page (entry_word_of words page.0)) may.in_range in_words
-      (λ p ne. holds_page-none p _ e ∙ sym (holds_page-none p _ may.holds_none))
-      (let a = holds_page-none page.0 _ e in let b = holds_page-none page.0 _ may.holds_none in let c = taken_bit-bit_or (entry_word_of words page.0) in omega arith)
-      (inl (take_again (entry_word_of words page.0) one))
-      (λ h is. absurd (none-some h (sym e ∙ is)))
-      refl) where
-        in_words : entry_index page.0 < length words
-        in_words = entry_within o words page.0 s may.in_range
+  turn-take k page may s = let b = taken_bit-bit_or (entry_word_of words page.0) in let none = may.holds_none in
+      turn-at_entry page.0 _ (after_take k v page (entry_word_of words page.0)) may.in_range (entry_within o words page.0 s may.in_range)
+      (λ p ne. grind (arith, common_steps))
+      (grind (arith, common_steps))
+      (dite (ℕ_discrete (taken_bit (entry_word_of words page.0)) 0) (λ free. inr (grind (arith, common_steps))) (λ busy. inl (take_again (entry_word_of words page.0) (omega arith))))
+      (λ h is. (grind (arith, common_steps), grind (arith, common_steps)))
+      refl
 
   pub turn-draw : (h : Held) → Drawing v h → Turn o (set words 0 (next_ticket_of words + 1)) (set views i (after_draw v (next_ticket_of words)))
   turn-draw h may = let w = with_ticket-some v.held h (next_ticket_of words) may.holds in turn-elsewhere 0 _ (after_draw v (next_ticket_of words))
@@ -154,15 +144,12 @@ module _ (k : Keeper) (o : Opening) (words : List ℕ) (views : List View) (seat
   turn-end end h holds empty right clear = subst (λ (p : ℕ). Turn o (set words (entry_index p) (word_after_release v.held end)) (set views seat (after_release v end)))
       (sym (ap (λ m. held_page m) holds)) (turn-release o words views seat v t at h _ _ holds empty right clear s)
 
-  pub turn-step : (step : Step) → Allowed o v step → Turn o (words_after o words v step) (views_after k o words views seat v step)
-  turn-step (Take page) may = turn-take o words views seat v t at k page may s
-  turn-step Draw may = let d = drawing v may in turn-draw o words views seat v t at d.0 d.1
-  turn-step (Load cell) may = turn-alike o words views seat v t at _ _ _ (λ page lt e. absurd (omega arith)) (alike-load v cell _)
-  turn-step (Store frame cell value) may = turn-alike o words views seat v t at _ _ _ (λ page lt e. absurd (omega arith)) (alike-store v frame cell value)
-  turn-step (Mark frame) may = turn-alike o words views seat v t at _ _ _ (λ page lt e. absurd (omega arith)) (alike-mark v frame)
-  turn-step (Release None) may = let p = for_some v.held (MayLetGo o v) may.1 in turn-end None p.0 p.1 refl refl (taken_bit-released _ _ _)
-  turn-step (Release (Some d)) may = let p = for_some v.held (MayEnd o d) may.1 in turn-end (Some d) p.0 p.1 refl refl (taken_bit-released _ _ _)
-
 pub steps_keep_turn : (k : Keeper) (o : Opening) (words : List ℕ) (views : List View) (seat : ℕ) (v : View) (step : Step) → Has views seat v → Shaped o words → Turn o words views → Allowed o v step
     → Turn o (words_after o words v step) (views_after k o words views seat v step)
-steps_keep_turn k o words views seat v step at s t may = turn-step k o words views seat v t at s step may
+steps_keep_turn k o words views seat v (Take page) at s t may = turn-take o words views seat v t at k page may s
+steps_keep_turn k o words views seat v Draw at s t may = let d = drawing v may in turn-draw o words views seat v t at d.0 d.1
+steps_keep_turn k o words views seat v (Load cell) at s t may = turn-alike o words views seat v t at _ _ _ (λ page lt e. absurd (omega arith)) (alike-load v cell _)
+steps_keep_turn k o words views seat v (Store frame cell value) at s t may = turn-alike o words views seat v t at _ _ _ (λ page lt e. absurd (omega arith)) (alike-store v frame cell value)
+steps_keep_turn k o words views seat v (Mark frame) at s t may = turn-alike o words views seat v t at _ _ _ (λ page lt e. absurd (omega arith)) (alike-mark v frame)
+steps_keep_turn k o words views seat v (Release None) at s t may = let p = for_some v.held (MayLetGo o v) may.1 in turn-end k o words views seat v t at s None p.0 p.1 refl refl (taken_bit-released _ _ _)
+steps_keep_turn k o words views seat v (Release (Some d)) at s t may = let p = for_some v.held (MayEnd o d) may.1 in turn-end k o words views seat v t at s (Some d) p.0 p.1 refl refl (taken_bit-released _ _ _)

@@ -1,28 +1,20 @@
 -- Lists of unmarked frames: a frame is looked for, and taken out.
-use Rattle.std.proofs.Common.{◌≡◌, ℕ, eqb, cond, Bool, true, false, not, ◌||◌, zero, suc, ◌+◌, ◌<◌, ◌≤◌, List, [], ◌∷◌, ◌++◌, filter, length, take, drop, sym, refl, ap, ◌∙◌, append_assoc, arith, ne_eqb}
+use Rattle.std.proofs.Common.{◌≡◌, ℕ, eqb, cond, Bool, true, false, not, zero, suc, ◌+◌, ◌<◌, ◌≤◌, List, [], ◌∷◌, ◌++◌, filter, length, take, drop, sym, refl, ap, ◌∙◌, append_assoc, arith}
 use Rattle.std.specs.List.{count_by, list_any}
 use Rattle.std.proofs.lemmas.List.{drop-append-le, take-append-le, length-drop}
 use Rattle.std.proofs.lemmas.List.Elements.{filter-append}
 use Rattle.std.proofs.lemmas.List.Sums.{sum_by-append, sum_by-cons}
 use Rattle.std.proofs.Math.Seq.{take-add}
+use Rattle.std.proofs.lemmas.Grind.{common_steps}
 
 module _ {X : Type 0} (p : X → Bool) where
   count_by-cons : (x : X) (xs : List X) → count_by p (x ∷ xs) ≡ cond (p x) 1 0 + count_by p xs
   count_by-cons x xs = sum_by-cons (λ y. cond (p y) 1 0) x xs
 
-  count_by-yes : (x : X) (xs : List X) → p x ≡ true → count_by p (x ∷ xs) ≡ 1 + count_by p xs
-  count_by-yes x xs e = count_by-cons x xs ∙ ap (λ b. cond b 1 0 + count_by p xs) e
-
-  count_by-no : (x : X) (xs : List X) → p x ≡ false → count_by p (x ∷ xs) ≡ count_by p xs
-  count_by-no x xs e = let a = count_by-cons x xs ∙ ap (λ b. cond b 1 0 + count_by p xs) e in omega arith
-
   -- whether a list has such an item is whether it has more than none
   pub any-is_counted : (xs : List X) → list_any p xs ≡ not (eqb (count_by p xs) 0)
   any-is_counted [] = refl
-  any-is_counted (x ∷ xs) = by_bit (p x) refl (any-is_counted xs) where
-    by_bit : (b : Bool) → p x ≡ b → list_any p xs ≡ not (eqb (count_by p xs) 0) → list_any p (x ∷ xs) ≡ not (eqb (count_by p (x ∷ xs)) 0)
-    by_bit true e rest = ap (λ b. b || list_any p xs) e ∙ sym (ap (λ b. not b) (ne_eqb (count_by p (x ∷ xs)) 0 (λ z. let a = count_by-yes x xs e in absurd (omega arith))))
-    by_bit false e rest = ap (λ b. b || list_any p xs) e ∙ rest ∙ ap (λ n. not (eqb n 0)) (sym (count_by-no x xs e))
+  any-is_counted (x ∷ xs) = grind (arith, common_steps, count_by-cons x xs, any-is_counted xs)
 
 drop_next : {X : Type 0} (i : ℕ) (xs : List X) → drop 1 (drop i xs) ≡ drop (suc i) xs
 drop_next zero xs = refl

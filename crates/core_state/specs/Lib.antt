@@ -20,6 +20,7 @@ pub mod NoticedHistory
 pub mod ScanSteps
 pub mod Stepped
 pub mod Room
+pub mod KnownInside
 pub mod CoreState
 pub mod CoreOpens
 pub mod Settled

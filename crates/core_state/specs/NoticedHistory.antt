@@ -1,21 +1,20 @@
 -- What noticed words tell of the plain history, whose entry number k has the ticket that is k more than
 -- the first.
-use Rattle.std.specs.Prelude.{◌≡◌, ◌⊎◌, ℕ, ◌+◌, ◌-◌, ◌<◌, ◌≤◌, List, length, take, slice_get, slice_index, Some, None, IsSomeAnd}
+use Rattle.std.specs.Prelude.{◌≡◌, ◌⊎◌, ℕ, ◌+◌, ◌-◌, ◌<◌, ◌≤◌, List, length, take, slice_get, slice_index, Some}
 use Rattle.evac_model.specs.declared.entry.Entry.{Entry}
 use Rattle.evac_model.specs.Page.{Page}
 use Rattle.evac_model.specs.State.{PlainState, page_at}
 use Rattle.evac_model.specs.History.{after_entries}
-use Rattle.evac_words.specs.Word.{taken_bit, moving_bit, mapped_bit, pins_of, bound_of}
+use Rattle.evac_words.specs.Word.{taken_bit, moving_bit, bound_of}
 use Rattle.core_state.specs.declared.noticed.Notice.{Notice}
 use Rattle.core_state.specs.declared.opening.Opening.{Opening}
 use Rattle.core_state.specs.declared.view.View.{View}
-use Rattle.core_state.specs.Words.{kind_in}
 use Rattle.core_state.specs.Pages.{Flagged}
 use Rattle.core_state.specs.Rearranged.{HasNotice}
 
 -- the word is one that a take of the view found: by the right to move, or the last by a ticket
-abbrev pub Noticed : View → Notice → Type 0
-Noticed v c = HasNotice v c ⊎ (v.noticed.last ≡ Some c)
+abbrev pub WasNoticed : View → Notice → Type 0
+WasNoticed v c = HasNotice v c ⊎ (v.noticed.last ≡ Some c)
 
 -- the entries with tickets below this one
 abbrev pub entries_below : Opening → ℕ → List Entry → List Entry
@@ -41,13 +40,11 @@ pub record AnsweredSince (entries : List Entry) (c : Notice) : Type 0 where
   pub on : entry.page.0 ≡ c.page.0
   pub late : bound_of c.word ≤ entry.ticket
 
--- The word isn't moving and has the flags of the page: a mapped page has the kind and the pins that the
--- word says, and the word says that the page is mapped where it is.
+-- The word isn't moving and has the flags of the page: both are mapped or neither is, with the same kind
+-- and pins.
 pub record ShowsPage (w : ℕ) (m : Page) : Type 0 where
   pub still : moving_bit w ≡ 0
   pub flags : Flagged w m
-  pub mapped : mapped_bit w ≡ 1 → IsSomeAnd m (λ p. (p.kind ≡ kind_in w) × (p.pins ≡ pins_of w))
-  pub unmapped : mapped_bit w ≡ 0 → m ≡ None
 
 -- The word's bound is one more than the ticket of an entry of its page, or the page's opening bound, and
 -- none above the tickets drawn. A word that wasn't taken shows the page as the entries with tickets below

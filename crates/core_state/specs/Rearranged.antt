@@ -29,7 +29,7 @@ pub record GoesOn (before after : View) (h : Held) : Type 0 where
   pub left : before.left ≤ after.left
   pub right : right_to h.page.0 after ≡ right_to h.page.0 before
 
--- a view with tickets left was another, and has the number of a caller where that had one
+-- the view before has tickets left, and the one after has the number of a caller where it has one
 pub record KeepsCaller (before after : View) : Type 0 where
   pub left : 0 < before.left
   pub caller : IsSome before.caller → IsSome after.caller

@@ -45,8 +45,8 @@ caller_of_both (Some c) other = Some c
 -- A seat that holds no page and has nothing unmarked is joined into another, which gets its entries,
 -- tickets, rights, frames in hand, and its notices of takes by the right to move, behind its own. That
 -- seat may hold a page, but not one that the joined seat has the right to move. It gets the number of
--- the joined seat's caller where it has none of its own. The last notice of a take by a ticket and the
--- scanner's part are its own.
+-- the joined seat's caller where it has none of its own. The last notice of a take by a ticket, the
+-- count of those takes and the scanner's part are its own.
 pub record Joins (o : Opening) (v joined both : View) : Type 0 where
   pub rests : IsAtRest o joined
   pub seated : IsSeated o both
@@ -56,6 +56,7 @@ pub record Joins (o : Opening) (v joined both : View) : Type 0 where
   pub entries : both.entries ≡ v.entries ++ joined.entries
   pub by_right : both.noticed.by_right ≡ v.noticed.by_right ++ joined.noticed.by_right
   pub last : both.noticed.last ≡ v.noticed.last
+  pub by_ticket : both.noticed.by_ticket ≡ v.noticed.by_ticket
   pub caller : both.caller ≡ caller_of_both v.caller joined.caller
   pub left : both.left ≡ v.left + joined.left
   pub seen : both.seen ≡ max v.seen joined.seen

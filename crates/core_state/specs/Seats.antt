@@ -22,8 +22,8 @@ pub record IsSeat (o : Opening) (v : View) : Type 0 where
   pub in_hand : (frame : ℕ) (x : HandFrame) → hand_frame v frame ≡ Some x → length x.stores ≡ o.cells
   pub copies : (s : Scan) (frame : ℕ) → v.scan ≡ Some s → frame < o.frames → (copy_at s frame).places ≡ o.cells
 
--- Each view is such a view, or the one that a joined seat is left with. One seat at most keeps the free
--- frames, and with them the journal of the frame space.
+-- Each view is such a view, or the one that a joined seat is left with. One view at most has the
+-- journal of the frame space.
 pub record Seats (o : Opening) (views : List View) : Type 0 where
   pub each : (i : ℕ) (v : View) → Has views i v → (v ≡ spent) ⊎ IsSeat o v
   pub one_journal : sum_by keeps_journal views ≤ 1

@@ -1,12 +1,17 @@
 //! What a seat knows of the cells of a frame.
 
+ghost use Rattle.std.specs.Prelude.{◌≡◌, ◌≤◌, ◌-◌, ◌++◌, ℕ, None, length, take, drop, replicate};
+
 use std::alloc::{AllocError, Global};
 use std::marker::Model;
 
-/// For each cell of a frame the number that a seat knows there, or none. Contracts see the list.
+/// For each cell of a frame the number that a seat knows there, or none. Contracts see the list. None is known
+/// of a cell before `from`, nor of one from `to` on, so that all is forgotten in the time of the cells between.
 #[derive(Drop)]
 pub struct KnownCells {
     pub(crate) items: Vec<Option<u64>>,
+    from: usize,
+    to: usize,
 }
 
 impl Model for KnownCells {
@@ -15,6 +20,36 @@ impl Model for KnownCells {
     ghost Value = { List (Option ℕ) };
 
     ghost view = { λ a. a.items.items };
+
+    ghost use Rattle.core_state.specs.KnownInside.{AreWithin};
+
+    ghost invariant = { AreWithin };
+}
+
+/// The lower one of two numbers.
+fn lower(a: usize, b: usize) -> usize
+    ensures first { result ≤ a }
+    ensures second { result ≤ b }
+{
+    if a < b { a } else { b }
+}
+
+/// The higher one of two numbers.
+fn higher(a: usize, b: usize) -> usize
+    ensures first { a ≤ result }
+    ensures second { b ≤ result }
+    ensures most { (n : ℕ) → a ≤ n → b ≤ n → result ≤ n }
+{
+    if a < b { b } else { a }
+}
+
+/// Forgets what is known of the cells from one place on and before another.
+fn forget(cells: &mut [Option<u64>], from: usize, to: usize)
+    requires range { from ≤ to }
+    requires inside { to ≤ length cells.old }
+    ensures { cells.new ≡ take from cells.old ++ (replicate (to - from) None ++ drop to cells.old) }
+{
+    cells[from..to].fill(None);
 }
 
 impl KnownCells {
@@ -26,6 +61,8 @@ impl KnownCells {
     {
         Ok(KnownCells {
             items: vec![in alloc; None; cells]?,
+            from: cells,
+            to: 0,
         })
     }
 
@@ -50,15 +87,22 @@ impl KnownCells {
     pub(crate) fn know(&mut self, cell: u32, value: u64)
         ensures { self.new ≡ slice_set self.old cell (Some value) }
     {
-        if let Some(known) = self.items.get_mut(cell as usize) {
-            *known = Some(value);
+        let place = cell as usize;
+        if place >= self.items.len() {
+            return;
         }
+        self.items[place] = Some(value);
+        self.from = lower(self.from, place);
+        self.to = higher(self.to, place + 1);
     }
 
-    /// Forgets all.
+    /// Forgets all. It looks only at the cells from the first known one to the last.
     pub(crate) fn clear(&mut self)
         ensures { self.new ≡ replicate (length self.old) None }
     {
-        self.items.fill(None);
+        let from = lower(self.from, self.to);
+        forget(self.items.as_mut_slice(), from, self.to);
+        self.from = self.items.len();
+        self.to = 0;
     }
 }

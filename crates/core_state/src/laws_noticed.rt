@@ -12,13 +12,13 @@ ghost use Rattle.core_state.specs.Views.{Has};
 ghost use Rattle.core_state.specs.Sound.{Sound};
 ghost use Rattle.core_state.specs.Histories.{IsOpeningState, IsHistoryOf, AllLetGo};
 ghost use Rattle.core_state.specs.Rearranged.{HasNotice};
-ghost use Rattle.core_state.specs.NoticedHistory.{Noticed, AnsweredSince, TellsHistory};
+ghost use Rattle.core_state.specs.NoticedHistory.{WasNoticed, AnsweredSince, TellsHistory};
 
 /// Each noticed word of a sound snapshot has the bound that an entry of its page left, or the opening's;
 /// and one that wasn't taken has the mapping, the kind and the pins of the page, as the entries of the
 /// history with tickets below its bound leave it.
 pub fn noticed_words_tell_the_history()
-    ensures { (o : Opening) (words : List ℕ) (views : List View) (start : PlainState) (entries : List Entry) (i : ℕ) (v : View) (c : Notice) → Sound o words views → IsOpeningState o start → IsHistoryOf o words views entries → Has views i v → Noticed v c → TellsHistory o start entries c }
+    ensures { (o : Opening) (words : List ℕ) (views : List View) (start : PlainState) (entries : List Entry) (i : ℕ) (v : View) (c : Notice) → Sound o words views → IsOpeningState o start → IsHistoryOf o words views entries → Has views i v → WasNoticed v c → TellsHistory o start entries c }
 {}
 
 /// Where no view of a sound snapshot holds a page, each word that a take by the right to move found

@@ -1,4 +1,4 @@
-use Rattle.core_state.proofs.AllowedSteps.{has_page}
+use Rattle.core_state.proofs.AllowedReplies.{has_page}
 use Rattle.core_state.proofs.allowed.is_allowed.Goals as goal
 
 pub returns-in-Release : goal.returns-in-Release

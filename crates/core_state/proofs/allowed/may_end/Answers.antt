@@ -1,7 +1,7 @@
 use Rattle.std.proofs.Common.{rules, ◌≡◌, ◌≤◌, ℕ, ap, ◌∙◌, IsSome}
 use Rattle.evac_words.specs.Word.{moving_bit}
 use Rattle.core_state.specs.Steps.{pins_after}
-use Rattle.core_state.proofs.AllowedSteps.{end}
+use Rattle.core_state.proofs.AllowedReplies.{end}
 use Rattle.core_state.proofs.allowed.may_end.Goals as goal
 
 pub returns-then-pins-le63 : goal.returns-then-pins-le63

@@ -1,7 +1,7 @@
 use Rattle.std.proofs.Common.{rules, ◌≡◌, ◌<◌, None}
 use Rattle.evac_words.specs.Word.{moving_bit}
 use Rattle.core_state.specs.Views.{right_to}
-use Rattle.core_state.proofs.AllowedSteps.{let_go}
+use Rattle.core_state.proofs.AllowedReplies.{let_go}
 use Rattle.core_state.proofs.allowed.may_let_go.Goals as goal
 
 pub returns-then-has_right : goal.returns-then-has_right

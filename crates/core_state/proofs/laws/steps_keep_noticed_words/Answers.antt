@@ -1,4 +1,4 @@
-use Rattle.core_state.proofs.NoticedKinds.{steps_keep_noticed_words}
+use Rattle.core_state.proofs.NoticedKept.{steps_keep_noticed_words}
 use Rattle.core_state.proofs.laws.steps_keep_noticed_words.Goals as goal
 
 pub returns : goal.returns

@@ -1,4 +1,4 @@
-use Rattle.core_state.proofs.PageKinds.{steps_keep_pages}
+use Rattle.core_state.proofs.PageCells.{steps_keep_pages}
 use Rattle.core_state.proofs.laws.steps_keep_pages.Goals as goal
 
 pub returns : goal.returns

@@ -4,7 +4,7 @@ use Rattle.core_state.specs.declared.view.View.{View}
 use Rattle.core_state.specs.Room.{HasRoom}
 use Rattle.core_state.specs.ScanSteps.{AllowedScan}
 use Rattle.core_state.proofs.Rooms.{seat_has, lent_has, lent_is}
-use Rattle.core_state.proofs.ScanRooms.{place_for_copy, copied_within, room-copy}
+use Rattle.core_state.proofs.RoomMoves.{place_for_copy, copied_within, room-copy}
 use Rattle.core_state.proofs.kept.Kept.copy.Goals as goal
 
 pub word_at-found-requires : goal.word_at-found-requires

@@ -6,6 +6,7 @@ use Rattle.core_state.specs.declared.step.MoveStep.TheVariants.{Remap}
 use Rattle.core_state.specs.declared.view.View.{View}
 use Rattle.core_state.specs.Steps.{held_word}
 use Rattle.core_state.specs.MoveSteps.{AllowedMove}
+use Rattle.core_state.specs.Views.{view_of}
 use Rattle.core_state.proofs.Rooms.{seat_has, lent_has, lent_is}
 use Rattle.core_state.proofs.RoomMoves.{room-remap}
 use Rattle.core_state.proofs.MovePlaces.{remap_on_frame, remap_place, old_frame_low, old_frame_has, old_frame_spare}
@@ -63,3 +64,9 @@ returns-clause-room c =
     (c.held_frame.ensures ∙ ap (λ (v : View). frame_of (held_word v.held)) same)
     c.remap-spare.ensures.view c.remap-spare.ensures.spare
     (c.keep_spare.ensures ∙ ap (λ (r : Room). record r { spare = set r.spare c.args.frame.0 (Some c.remap-spare.result) }) c.take_spare-old_spare.ensures.room)
+
+pub remap-spare-requires-clause-fits : goal.remap-spare-requires-clause-fits
+remap-spare-requires-clause-fits c =
+    let low = remap_place c.args.self.now.opening (view_of c.args.self.now.snapshot.views c.args.seat) c.args.frame c.requires.may in
+    let hand = c.requires.may.0.hand in
+    let small = c.requires.room.small.frames in omega arith

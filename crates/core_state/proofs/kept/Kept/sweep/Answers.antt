@@ -3,7 +3,7 @@ use Rattle.core_state.specs.declared.step.ScanStep.TheVariants.{Sweep}
 use Rattle.core_state.specs.declared.view.View.{View}
 use Rattle.core_state.specs.ScanSteps.{AllowedScan}
 use Rattle.core_state.proofs.Rooms.{lent_has, lent_is}
-use Rattle.core_state.proofs.ScanRooms.{node_for_sweep, room-sweep}
+use Rattle.core_state.proofs.RoomMoves.{node_for_sweep, room-sweep}
 use Rattle.core_state.proofs.kept.Kept.sweep.Goals as goal
 
 pub sweep-requires-clause-node : goal.sweep-requires-clause-node

@@ -2,7 +2,7 @@ use Rattle.std.proofs.Common.{◌<◌, length, sym, subst}
 use Rattle.core_state.specs.CoreState.{CoreState, IsSound}
 use Rattle.core_state.specs.Views.{view_of}
 use Rattle.core_state.specs.Steps.{Allowed}
-use Rattle.core_state.proofs.CoreSteps.{step_stays_sound}
+use Rattle.core_state.proofs.SoundSteps.{step_stays_sound}
 use Rattle.core_state.proofs.machine.Core.step.Goals as goal
 
 pub returns-clause-sound : goal.returns-clause-sound
