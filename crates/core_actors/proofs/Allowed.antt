@@ -1,5 +1,5 @@
 -- An owner's next action is allowed.
-use Rattle.std.proofs.Common.{◌≡◌, ◌≢◌, inl, inr, ℕ, zero, suc, ◌+◌, ◌<◌, ◌≤◌, Bool, true, false, List, [], ◌∷◌, length, replicate, get_or, bit_or, refl, sym, ap, ◌∙◌, subst, arith, Option, Some, None, is_some, IsSome, IsSomeAnd, ◌==◌}
+use Rattle.std.proofs.Common.{◌≡◌, inl, inr, ℕ, zero, suc, ◌+◌, ◌<◌, Bool, true, false, List, [], ◌∷◌, length, replicate, get_or, refl, ap, ◌∙◌, subst, arith, Option, Some, None, is_some, IsSome, IsSomeAnd, ◌==◌}
 use Rattle.std.specs.List.{AllByRecursion, count_by}
 use Rattle.evac_model.specs.declared.names.FrameNo.{FrameNo}
 use Rattle.evac_model.specs.declared.names.Kind.{Kind}
@@ -7,7 +7,7 @@ use Rattle.evac_model.specs.declared.names.PageNo.{PageNo}
 use Rattle.evac_model.specs.declared.call.Call.{Call}
 use Rattle.evac_model.specs.declared.call.Call.TheVariants.{Alloc, Free, Read, Write, Add, Pin, Unpin}
 use Rattle.evac_model.specs.Geometry.{Sizes}
-use Rattle.evac_words.specs.Word.{moving_bit, mapped_bit, pins_of, frame_of, bit_of}
+use Rattle.evac_words.specs.Word.{mapped_bit, pins_of, frame_of, bit_of}
 use Rattle.core_state.specs.declared.hand.HandFrame.{HandFrame}
 use Rattle.core_state.specs.declared.held.Held.{Held}
 use Rattle.core_state.specs.declared.keeper.Keeper.TheVariants.{OneOwner}
@@ -18,21 +18,19 @@ use Rattle.core_state.specs.declared.step.Step.{Step}
 use Rattle.core_state.specs.declared.step.Step.TheVariants as steps
 use Rattle.core_state.specs.declared.view.View.{View}
 use Rattle.core_state.specs.Pages.{Pages}
-use Rattle.core_state.specs.Views.{Has, maps_to, times_unmarked, hand_frame, Owns}
+use Rattle.core_state.specs.Views.{Has, maps_to, hand_frame, Owns}
 use Rattle.core_state.specs.Steps.{MayTake, MayEnd, Allowed}
 use Rattle.core_state.specs.MoveSteps.{MayMap, MayUnmap, InHand, AllowedMove}
 use Rattle.core_state.specs.HandOvers.{IsAtRest}
 use Rattle.core_state.proofs.EntryWords.{same_flags-take}
-use Rattle.core_actors.specs.declared.action.Action.{Action}
 use Rattle.core_actors.specs.declared.action.Action.TheVariants as actions
 use Rattle.core_actors.specs.declared.action.LeaseSeen.{LeaseSeen}
-use Rattle.core_actors.specs.declared.action.SpaceCall.{SpaceCall}
 use Rattle.core_actors.specs.declared.action.SpaceCall.TheVariants.{Lease, Return}
 use Rattle.core_actors.specs.declared.place.Place.{Place}
 use Rattle.core_actors.specs.declared.place.Place.TheVariants.{Between, InCall}
 use Rattle.core_actors.specs.declared.place.CallPlace.{CallPlace}
 use Rattle.core_actors.specs.declared.place.CallPlace.TheVariants.{Zero, MarkZeros, Take, Draw, Load, Store, Mark, Map, Unmap, Release}
-use Rattle.core_actors.specs.CallSteps.{IsCallOf, first_cell, is_freed, reply_of, values_of}
+use Rattle.core_actors.specs.CallSteps.{IsCallOf, first_cell, reply_of, values_of}
 use Rattle.core_actors.specs.Places.{frame_in, action_at}
 use Rattle.core_actors.specs.Owners.{OwnerState, owner_ended, next_action}
 use Rattle.core_actors.specs.Actions.{IsStorable}

@@ -1,7 +1,6 @@
 -- From the start of a call an owner makes the actions of its list, one after another, whatever it hears.
-use Rattle.std.proofs.Common.{◌≡◌, ◌≢◌, ℕ, zero, suc, eq-eqb, eqb-true, ne_eqb, ◌+◌, ◌<◌, ◌≤◌, ◌==◌, nat_lt, Bool, true, false, List, [], ◌∷◌, ◌++◌, length, length-append, map, take, get_or, append_assoc, append-nil, refl, sym, ap, ◌∙◌, subst, arith, Option, Some, None, if◌then◌else◌}
+use Rattle.std.proofs.Common.{◌≡◌, ◌≢◌, ℕ, zero, suc, eq-eqb, eqb-true, ne_eqb, ◌+◌, ◌<◌, ◌≤◌, ◌==◌, nat_lt, Bool, true, false, List, [], ◌∷◌, ◌++◌, length, length-append, map, take, get_or, append_assoc, append-nil, refl, sym, ap, ◌∙◌, subst, arith, Some, None, if◌then◌else◌}
 use Rattle.std.specs.List.{range_with_len}
-use Rattle.std.proofs.lemmas.Bool.{eqb-false}
 use Rattle.std.proofs.lemmas.Bool.Decides.{nat_tests}
 use Rattle.std.proofs.lemmas.List.{map_push, length-take-le}
 use Rattle.std.proofs.Math.Seq.{take-suc}
@@ -26,7 +25,7 @@ use Rattle.core_actors.specs.declared.place.Place.{Place}
 use Rattle.core_actors.specs.declared.place.Place.TheVariants.{Between, InCall}
 use Rattle.core_actors.specs.declared.place.CallPlace.{CallPlace}
 use Rattle.core_actors.specs.declared.place.CallPlace.TheVariants.{Zero, MarkZeros, Take, Draw, Load, Store, Mark, Map, Unmap, Release}
-use Rattle.core_actors.specs.CallSteps.{IsCallOf, first_cell, load_count, values_of, is_freed, load_steps, store_steps, cell_steps, middle_steps, zero_steps, as_actions, lead_actions, map_actions, mapping_actions, call_actions}
+use Rattle.core_actors.specs.CallSteps.{first_cell, load_count, values_of, is_freed, load_steps, store_steps, cell_steps, middle_steps, as_actions, lead_actions, map_actions, mapping_actions, call_actions}
 use Rattle.core_actors.specs.Places.{frame_in, first_action, action_at, word_in, lease_in, zero_from, behind_lease, behind_take, store_from, behind_loads, load_from, cells_behind, map_behind, behind_draw, behind_first, place_behind, frame_owed, ends_call}
 use Rattle.core_actors.specs.Owners.{OwnerState, next_action, owner_after}
 use Rattle.core_actors.specs.Counts.{IsAlloc, NamesCells, IsLeaseOf, ComesTo, IsUnderWay}
@@ -76,7 +75,7 @@ module _ (cells : ℕ) (page : PageNo) where
   abbrev stored : Call → ℕ → List ℕ → List Step
   stored call found values = loaded call (load_count call) ++ store_steps (frame_in found) (first_cell call) values
 
-  abbrev done_in : Call → CallPlace → List Action
+  abbrev pub done_in : Call → CallPlace → List Action
   done_in call (Zero frame cell) = asked call ++ zeros frame cell
   done_in call (MarkZeros frame) = asked call ++ zeros frame cells
   done_in call (Take lease) = lead_actions cells page call lease
@@ -239,15 +238,15 @@ module _ (cells : ℕ) (page : PageNo) where
 -- ---- from one action to the next
 
 module _ (s : Sizes) (page : PageNo) (call : Call) (fits : IsCallFor s call) where
-  abbrev c : PageNo × Call
+  abbrev pub c : PageNo × Call
   c = (page, call)
 
-  abbrev done_at : Place → List Action
+  abbrev pub done_at : Place → List Action
   done_at (Between back) = []
   done_at (InCall at) = done_in s.cells page call at
 
   -- the actions made before, the one at the place, and those behind
-  abbrev Goes : Place → Action → Heard → Place → Type 0
+  abbrev pub Goes : Place → Action → Heard → Place → Type 0
   Goes place action heard next = (behind : List Action) → done_at place ++ listed action heard behind ≡ done_at next ++ behind
 
   one_more : (done next behind : List Action) (x : Action) → next ≡ done ++ x ∷ [] → done ++ x ∷ behind ≡ next ++ behind
@@ -258,7 +257,7 @@ module _ (s : Sizes) (page : PageNo) (call : Call) (fits : IsCallFor s call) whe
       (λ t. rw t (one_more (done_at here) (lead_actions s.cells page call lease ++ actions.Step (steps.Take page) ∷ []) behind (actions.Step (steps.Take page)) (ap (λ (l : List Action). l ++ actions.Step (steps.Take page) ∷ []) (sym e))))
       (λ f. rw f refl)
 
-  goes : (at : CallPlace) (heard : Heard) → ComesTo s.cells call at → ends_call (InCall at) ≡ false → Goes (InCall at) (action_at c at) heard (place_behind s.cells call at heard)
+  pub goes : (at : CallPlace) (heard : Heard) → ComesTo s.cells call at → ends_call (InCall at) ≡ false → Goes (InCall at) (action_at c at) heard (place_behind s.cells call at heard)
   goes (Zero frame cell) heard way same behind = one_more (done_at (InCall (Zero frame cell))) _ behind (action_at c (Zero frame cell)) (zero_made s.cells page call frame cell way.1)
   goes (MarkZeros frame) heard way same behind = one_more (done_at (InCall (MarkZeros frame))) _ behind (action_at c (MarkZeros frame)) (marked_made s.cells page call frame way)
   goes (Take lease) heard way same behind = taken (InCall (Take lease)) lease heard refl behind
@@ -278,7 +277,7 @@ begins_with s page kind NotAsked = refl
 begins_with s page kind (Got frame) = done_zeros s.cells page (Alloc kind) frame 0 (omega arith)
 begins_with s page kind (Refused i) = refl
 
-begins : (s : Sizes) (page : PageNo) (call : Call) (fits : IsCallFor s call) (heard : Heard) → Goes s page call fits (Between None) (first_action (page, call)) heard (behind_first s.cells call heard)
+pub begins : (s : Sizes) (page : PageNo) (call : Call) (fits : IsCallFor s call) (heard : Heard) → Goes s page call fits (Between None) (first_action (page, call)) heard (behind_first s.cells call heard)
 begins s page (Alloc kind) fits heard behind = ap (λ (l : List Action). l ++ behind) (sym (begins_with s page kind (lease_in heard)))
 begins s page Free fits heard behind = taken s page Free fits (Between None) NotAsked heard refl behind
 begins s page (Read first count) fits heard behind = taken s page (Read first count) fits (Between None) NotAsked heard refl behind

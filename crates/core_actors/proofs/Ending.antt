@@ -1,11 +1,10 @@
 -- The release of a call is allowed: whatever page was taken, the call answers this reply, and leaves the
 -- page as its holder leaves it.
-use Rattle.std.proofs.Common.{◌≡◌, ◌≢◌, ℕ, eq-eqb, ne_eqb, ◌+◌, ◌<◌, ◌≤◌, ◌==◌, ◌&&◌, Bool, true, false, List, [], length, bit_or, refl, sym, ap, ◌∙◌, subst, arith, Option, Some, None, if◌then◌else◌}
+use Rattle.std.proofs.Common.{◌≡◌, ◌≢◌, ℕ, eq-eqb, ne_eqb, ◌<◌, ◌≤◌, ◌==◌, ◌&&◌, Bool, true, false, List, [], length, bit_or, refl, sym, ap, ◌∙◌, subst, arith, Option, Some, None, if◌then◌else◌}
 use mathlib.Core.Logic.{dite}
 use native.Mathlib.Decide.{ℕ_discrete}
 use Rattle.evac_model.specs.declared.names.FrameNo.{FrameNo}
 use Rattle.evac_model.specs.declared.names.Kind.{Kind}
-use Rattle.evac_model.specs.declared.names.Kind.TheVariants.{Movable, Unmovable}
 use Rattle.evac_model.specs.declared.names.PageNo.{PageNo}
 use Rattle.evac_model.specs.declared.call.Call.{Call}
 use Rattle.evac_model.specs.declared.call.Call.TheVariants.{Alloc, Free, Read, Write, Add, Pin, Unpin}
@@ -21,12 +20,12 @@ use Rattle.core_state.specs.declared.opening.Opening.{Opening}
 use Rattle.core_state.specs.Words.{unmovable_for, packed, mapped_word, unmapped_word}
 use Rattle.core_state.specs.Pages.{answer_at, page_cells, mapped_as, Agrees, CouldBe, left_as, with_pins}
 use Rattle.core_state.specs.Steps.{MayEnd, nothing_known, pins_after}
-use Rattle.core_state.proofs.EntryWords.{same_flags-take}
+use Rattle.core_state.proofs.EntryWords.{unmovable_for-fits, same_flags-take}
 use Rattle.core_actors.specs.declared.action.LeaseSeen.{LeaseSeen}
 use Rattle.core_actors.specs.declared.action.LeaseSeen.TheVariants.{NotAsked, Got, Refused}
-use Rattle.core_actors.specs.CallSteps.{IsCallOf, first_cell, load_count, values_of, is_freed, leased_reply, leased_frame, reply_of}
+use Rattle.core_actors.specs.CallSteps.{IsCallOf, first_cell, load_count, values_of, is_freed, reply_of}
 use Rattle.core_actors.specs.Counts.{IsLeaseOf}
-use Rattle.core_actors.specs.Fits.{mapped_to, change_by, frame_or_0, word_with, stored_by, page_done, known_from, IsHeldAs}
+use Rattle.core_actors.specs.Fits.{mapped_to, change_by, word_with, page_done, known_from, IsHeldAs}
 use Rattle.core_actors.proofs.Cases.{same_either}
 use Rattle.core_actors.proofs.Known.{known_from-none, patched_by_nothing}
 use Rattle.core_actors.proofs.Answering.{reply-mapped, reply-unmapped, KeepsMapped, KeepsUnmapped, pins_few, pins-unmapped, answers-mapped, answers-unmapped}
@@ -77,10 +76,6 @@ module _ (s : Sizes) (o : Opening) (c : PageNo × Call) (lease : LeaseSeen) (fou
   }
 
 -- ---- an alloc that maps its page
-
-unmovable_for-fits : (k : Kind) → unmovable_for k < 2
-unmovable_for-fits Movable = omega arith
-unmovable_for-fits Unmovable = omega arith
 
 moving-packed : (t u f b : ℕ) → t < 2 → u < 2 → moving_bit (packed t 0 1 u 0 f b) ≡ 0
 moving-packed t u f b lt lu = omega arith

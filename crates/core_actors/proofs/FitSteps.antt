@@ -1,5 +1,5 @@
 -- An owner's view fits its place in the script after its next action, whichever that is.
-use Rattle.std.proofs.Common.{◌≡◌, ◌≢◌, ℕ, eqb-true, ◌+◌, ◌<◌, ◌≤◌, ◌==◌, Bool, false, List, [], ◌∷◌, ◌++◌, map, length, length-append, length-set, append_assoc, get_or, set, refl, sym, ap, ◌∙◌, subst, arith, Option, Some, None, if◌then◌else◌, IsSomeAnd}
+use Rattle.std.proofs.Common.{◌≡◌, ℕ, eqb-true, ◌+◌, ◌<◌, ◌==◌, List, [], ◌∷◌, ◌++◌, map, length, length-append, length-set, append_assoc, get_or, refl, sym, ap, ◌∙◌, subst, arith, Option, Some, None, IsSomeAnd}
 use Rattle.std.specs.List.{enumerate_from, AllByRecursion}
 use Rattle.std.proofs.lemmas.List.{map_push}
 use Rattle.evac_model.specs.declared.names.FrameNo.{FrameNo}
@@ -31,7 +31,6 @@ use Rattle.core_state.specs.MoveSteps.{hand_after_unmap, view_after_move}
 use Rattle.core_state.specs.HandOvers.{MayHandOver, hand_without, hand_with}
 use Rattle.core_state.proofs.MovePlaces.{old_low}
 use Rattle.core_actors.specs.declared.action.Action.TheVariants as actions
-use Rattle.core_actors.specs.declared.action.Heard.{Heard}
 use Rattle.core_actors.specs.declared.action.Heard.TheVariants as heards
 use Rattle.core_actors.specs.declared.action.LeaseSeen.{LeaseSeen}
 use Rattle.core_actors.specs.declared.action.LeaseSeen.TheVariants.{NotAsked, Got, Refused}
@@ -40,12 +39,12 @@ use Rattle.core_actors.specs.declared.place.Place.{Place}
 use Rattle.core_actors.specs.declared.place.Place.TheVariants.{Between, InCall}
 use Rattle.core_actors.specs.declared.place.CallPlace.{CallPlace}
 use Rattle.core_actors.specs.declared.place.CallPlace.TheVariants.{Zero, MarkZeros, Take, Draw, Load, Store, Mark, Map, Unmap, Release}
-use Rattle.core_actors.specs.CallSteps.{first_cell, load_count, values_of, leased_frame, reply_of}
-use Rattle.core_actors.specs.Places.{frame_in, action_at, zero_from, behind_lease, behind_take, store_from, load_from, behind_draw, behind_first}
-use Rattle.core_actors.specs.Owners.{OwnerState, owner_ended, next_action, owner_after}
+use Rattle.core_actors.specs.CallSteps.{first_cell, values_of, leased_frame, reply_of}
+use Rattle.core_actors.specs.Places.{frame_in, action_at, zero_from, behind_take, store_from, load_from, behind_draw}
+use Rattle.core_actors.specs.Owners.{OwnerState, next_action, owner_after}
 use Rattle.core_actors.specs.Actions.{heard_by}
 use Rattle.core_actors.specs.Counts.{IsUnderWay}
-use Rattle.core_actors.specs.Fits.{SeatHas, just_frame, zeroed, page_done, has_in, has_at, IsHeldAs, IsZeroed, HasInHand, IsSeatWith, IsSeatOf, Fits}
+use Rattle.core_actors.specs.Fits.{SeatHas, page_done, has_at, IsHeldAs, IsZeroed, IsSeatWith, Fits}
 use Rattle.core_actors.proofs.Cases.{if_two, with_move, with_step}
 use Rattle.core_actors.proofs.UnderWay.{stays_under_way}
 use Rattle.core_actors.proofs.Asks.{first_moves, leases_at, returns_at}

@@ -1,6 +1,5 @@
 -- What an owner's seat has at the place behind each action.
-use Rattle.std.proofs.Common.{◌≡◌, ◌≢◌, ℕ, zero, suc, eq-eqb, eqb-true, ne_eqb, ◌+◌, ◌<◌, ◌≤◌, ◌==◌, ◌&&◌, nat_lt, Bool, true, false, List, [], ◌∷◌, length, take, refl, sym, ap, ◌∙◌, subst, arith, bit_or, Option, Some, None, if◌then◌else◌}
-use Rattle.std.proofs.lemmas.Bool.{eqb-false}
+use Rattle.std.proofs.Common.{◌≡◌, ◌≢◌, ℕ, zero, suc, eq-eqb, eqb-true, ne_eqb, ◌≤◌, ◌==◌, ◌&&◌, nat_lt, Bool, true, false, List, [], ◌∷◌, length, take, refl, sym, ap, ◌∙◌, subst, arith, bit_or, Option, Some, None, if◌then◌else◌}
 use Rattle.std.proofs.lemmas.Bool.Decides.{nat_tests}
 use Rattle.evac_model.specs.declared.names.FrameNo.{FrameNo}
 use Rattle.evac_model.specs.declared.names.Kind.{Kind}
@@ -12,9 +11,9 @@ use Rattle.core_state.specs.Words.{mapped_word, unmapped_word}
 use Rattle.core_actors.specs.declared.action.LeaseSeen.{LeaseSeen}
 use Rattle.core_actors.specs.declared.action.LeaseSeen.TheVariants.{NotAsked, Got, Refused}
 use Rattle.core_actors.specs.declared.place.CallPlace.{CallPlace}
-use Rattle.core_actors.specs.declared.place.CallPlace.TheVariants.{Zero, MarkZeros, Take, Draw, Load, Store, Mark, Map, Unmap, Release}
+use Rattle.core_actors.specs.declared.place.CallPlace.TheVariants.{Zero, MarkZeros, Load, Store, Mark, Map, Unmap, Release}
 use Rattle.core_actors.specs.CallSteps.{load_count, values_of, is_freed, leased_frame}
-use Rattle.core_actors.specs.Places.{frame_in, zero_from, behind_lease, store_from, behind_loads, load_from, cells_behind, map_behind, behind_draw}
+use Rattle.core_actors.specs.Places.{frame_in, zero_from, store_from, behind_loads, load_from, cells_behind, behind_draw}
 use Rattle.core_actors.specs.Counts.{NamesCells, IsLeaseOf}
 use Rattle.core_actors.specs.Fits.{SeatHas, unmarked_by, zeroed, as_found, with_cells, word_with, has_in}
 use Rattle.core_actors.proofs.Cases.{by_test, if_then, same_either}

@@ -1,7 +1,6 @@
 -- A host has fewer actions left after each.
-use Rattle.std.proofs.Common.{◌≡◌, ℕ, zero, suc, ◌+◌, ◌*◌, ◌==◌, ◌<◌, ◌≤◌, Bool, true, false, if◌then◌else◌, List, [], ◌∷◌, length, refl, arith, suc-mul, Option, None, Some}
+use Rattle.std.proofs.Common.{◌≡◌, ℕ, suc, ◌+◌, ◌*◌, ◌==◌, ◌<◌, ◌≤◌, false, if◌then◌else◌, List, [], ◌∷◌, length, refl, arith, suc-mul, Option, None, Some}
 use Rattle.std.proofs.lemmas.Bool.{eqb-true, eqb-false}
-use Rattle.std.proofs.lemmas.Bool.Decides.{nat_tests}
 use Rattle.evac_model.specs.declared.device.Request.{Request}
 use Rattle.evac_model.specs.declared.device.Request.TheVariants.{Plug, Unplug, UnplugAll, State}
 use Rattle.evac_model.specs.declared.device.Response.{Response}
@@ -11,27 +10,21 @@ use Rattle.evac_model.specs.declared.host.HostCommand.TheVariants as commands
 use Rattle.evac_model.specs.declared.host.HostResult.{HostResult}
 use Rattle.evac_model.specs.declared.host.HostResult.TheVariants as results
 use Rattle.evac_model.specs.Geometry.{Sizes}
-use Rattle.evac_model.specs.DeviceAnswer.{block_at, is_good_range, request_in}
+use Rattle.evac_model.specs.DeviceAnswer.{is_good_range, request_in}
 use Rattle.evac_model.specs.HostCommands.{BlockRange, plugged_by}
+use Rattle.evac_model.proofs.Bounds.{good_within}
 use Rattle.core_actors.specs.declared.action.Heard.{Heard}
 use Rattle.core_actors.specs.Hosts.{HostState, host_ended, result_in, plugged_in, with_result, but_first, host_after, host_actions_left, IsHostUnderWay}
 use Rattle.core_actors.proofs.Cases.{if_then}
 
-some_count : (n : ℕ) → (n ≡ 0 → ⊥) → 1 ≤ n
-some_count zero other = absurd (other refl)
-some_count (suc n) other = omega arith
-
 -- a fact of a value that is chosen by a count
 by_count : {A : Type 0} (P : A → Type 0) (n : ℕ) (x y : A) → (n ≡ 0 → P x) → (1 ≤ n → P y) → P (if n == 0 then x else y)
-by_count P n x y none some = if_then P (n == 0) x y (λ e. none (eqb-true n 0 e)) (λ e. some (some_count n (eqb-false n 0 e)))
+by_count P n x y none some = if_then P (n == 0) x y (λ e. none (eqb-true n 0 e)) (λ e. let other = eqb-false n 0 e in some (omega arith))
 
 -- ---- the blocks that a request plugged are managed ones
 
 abbrev pub IsWithin : Sizes → BlockRange → Type 0
 IsWithin s r = r.first + r.count ≤ s.managed
-
-good_within : (s : Sizes) (addr count : ℕ) → is_good_range s addr count ≡ true → block_at s addr + count ≤ s.managed
-good_within s addr count good = grind (arith, nat_tests, good)
 
 plugged_by_within : (s : Sizes) (request : Option Request) (response : Response) → IsWithin s (plugged_by s request response)
 plugged_by_within s None response = omega arith

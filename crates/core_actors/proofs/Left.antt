@@ -1,9 +1,8 @@
 -- An owner has fewer actions left after each, and none just where it has ended.
 use Rattle.std.proofs.Common.{◌≡◌, ◌≢◌, ◌↔◌, ℕ, suc, ne_eqb, ap, ◌+◌, ◌-◌, ◌*◌, ◌<◌, ◌≤◌, ◌==◌, nat_lt, min, Bool, true, false, List, [], ◌∷◌, ◌++◌, length, length-append, refl, arith, suc-mul, Option, None, Some, if◌then◌else◌}
-use Rattle.std.specs.List.{AllByRecursion, sum_by}
+use Rattle.std.specs.List.{AllByRecursion}
 use Rattle.std.proofs.lemmas.List.Sums.{sum_by-cons}
 use Rattle.std.proofs.lemmas.Bool.{eqb-false}
-use Rattle.std.proofs.lemmas.Bool.Decides.{nat_tests}
 use Rattle.evac_model.specs.declared.names.FrameNo.{FrameNo}
 use Rattle.evac_model.specs.declared.names.Kind.{Kind}
 use Rattle.evac_model.specs.declared.names.PageNo.{PageNo}
@@ -20,10 +19,10 @@ use Rattle.core_actors.specs.declared.place.Place.{Place}
 use Rattle.core_actors.specs.declared.place.Place.TheVariants.{Between, InCall}
 use Rattle.core_actors.specs.declared.place.CallPlace.{CallPlace}
 use Rattle.core_actors.specs.declared.place.CallPlace.TheVariants.{Zero, MarkZeros, Take, Draw, Load, Store, Mark, Map, Unmap, Release}
-use Rattle.core_actors.specs.CallSteps.{IsCallOf, load_count, values_of, is_freed, leased_frame, frame_back}
+use Rattle.core_actors.specs.CallSteps.{IsCallOf, load_count, values_of, is_freed, frame_back}
 use Rattle.core_actors.specs.Places.{first_action, action_at, word_in, lease_in, zero_from, behind_lease, behind_take, store_from, behind_loads, load_from, cells_behind, map_behind, behind_draw, behind_first, place_behind, calls_behind}
 use Rattle.core_actors.specs.Owners.{OwnerState, owner_at_start, owner_ended, next_action, owner_after}
-use Rattle.core_actors.specs.Counts.{most_actions, returns_left, behind_most, left_in, left_of, left_at, actions_left, IsAlloc, NamesCells, IsLeaseOf, ComesTo, IsPlaced, IsUnderWay, FindsTaken}
+use Rattle.core_actors.specs.Counts.{most_actions, returns_left, behind_most, left_in, left_of, left_at, actions_left, IsAlloc, NamesCells, ComesTo, IsPlaced, IsUnderWay, FindsTaken}
 use Rattle.core_actors.proofs.Cases.{if_then}
 
 -- ---- the most

@@ -14,5 +14,6 @@ pub mod Allowed
 pub mod Kept
 pub mod LeaseKept
 pub mod CallRuns
+pub mod ScriptRuns
 pub mod HostCounts
 pub mod HostPlaces

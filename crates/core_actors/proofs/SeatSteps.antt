@@ -1,5 +1,5 @@
 -- What an owner's seat has after each kind of action.
-use Rattle.std.proofs.Common.{◌≡◌, ℕ, suc, eqb, eq-eqb, ne_eqb, cond, not, ◌+◌, ◌<◌, ◌≤◌, ◌==◌, Bool, true, false, List, [], ◌∷◌, ◌++◌, filter, length, length-set, take, get_or, set, bit_or, refl, sym, ap, ◌∙◌, subst, arith, Option, Some, None, if◌then◌else◌, IsSomeAnd}
+use Rattle.std.proofs.Common.{◌≡◌, ℕ, suc, eqb, eq-eqb, ne_eqb, cond, not, ◌+◌, ◌<◌, ◌≤◌, ◌==◌, Bool, true, false, List, [], ◌∷◌, ◌++◌, filter, length, take, get_or, set, bit_or, refl, sym, ap, ◌∙◌, subst, arith, Option, Some, None, if◌then◌else◌, IsSomeAnd}
 use Rattle.std.specs.List.{count_by}
 use Rattle.std.proofs.lemmas.List.{length-take-le, length-replicate}
 use Rattle.std.proofs.Math.Seq.{take-suc}
@@ -24,9 +24,9 @@ use Rattle.core_state.specs.MoveSteps.{held_after_map, held_after_unmap, hand_af
 use Rattle.core_state.specs.HandOvers.{hand_without, hand_with}
 use Rattle.core_state.proofs.EntryWords.{same_flags-take}
 use Rattle.core_state.proofs.Holding.{for_some}
-use Rattle.core_actors.specs.CallSteps.{first_cell, values_of}
+use Rattle.core_actors.specs.CallSteps.{first_cell}
 use Rattle.core_actors.specs.Places.{frame_in}
-use Rattle.core_actors.specs.Fits.{known_from, PageHeld, SeatHas, just_frame, unmarked_by, zeroed, as_found, with_cells, IsHeldAs, Holds, IsZeroed, HasInHand, IsSeatWith}
+use Rattle.core_actors.specs.Fits.{known_from, PageHeld, SeatHas, just_frame, unmarked_by, zeroed, as_found, with_cells, IsHeldAs, IsZeroed, IsSeatWith}
 use Rattle.core_actors.proofs.Known.{known_from-push, known_from-none, nothing_there}
 use Rattle.core_actors.proofs.HeldCells.{maps_here}
 use Rattle.core_actors.proofs.HandSteps.{within, hand_without_one, hand_with_one, has_set, has_set_none, store_elsewhere, hand_as, zero_more}

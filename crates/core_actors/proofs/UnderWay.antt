@@ -1,5 +1,5 @@
 -- An owner under way stays so after each of its actions, whatever that gives.
-use Rattle.std.proofs.Common.{◌≡◌, ◌≢◌, ℕ, eqb-true, ◌+◌, ◌<◌, ◌≤◌, ◌==◌, nat_lt, Bool, true, false, List, [], ◌∷◌, ◌++◌, length, length-append, refl, arith, Option, Some, None, if◌then◌else◌}
+use Rattle.std.proofs.Common.{◌≡◌, ◌≢◌, ℕ, eqb-true, ◌+◌, ◌<◌, ◌≤◌, ◌==◌, nat_lt, List, [], ◌∷◌, ◌++◌, length, length-append, refl, arith, Some, None}
 use Rattle.std.proofs.lemmas.Bool.{eqb-false}
 use Rattle.std.proofs.lemmas.Bool.Decides.{nat_tests}
 use Rattle.evac_model.specs.declared.names.FrameNo.{FrameNo}

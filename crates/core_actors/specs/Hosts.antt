@@ -90,34 +90,34 @@ result_now h = unwrap_or h.result (results.Answered responses.Error)
 abbrev pub but_first : BlockRange → BlockRange
 but_first r = record { first = suc r.first; count = r.count - 1 }
 
-abbrev pub after_heard : List HostCommand → HostState → Heard → HostState
-after_heard [] h heard = h
-after_heard (c ∷ cs) h heard =
+abbrev pub host_after_at : List HostCommand → HostState → Heard → HostState
+host_after_at [] h heard = h
+host_after_at (c ∷ cs) h heard =
     if h.online.count == 0 then with_result h (result_in heard) (plugged_in h.sizes c (result_in heard))
     else with_result h (result_now h) (but_first h.online)
 
-abbrev pub line_heard : List HostCommand → HostState → Heard → Option HostLine
-line_heard [] h heard = None
-line_heard (c ∷ cs) h heard =
+abbrev pub line_after_at : List HostCommand → HostState → Heard → Option HostLine
+line_after_at [] h heard = None
+line_after_at (c ∷ cs) h heard =
     if h.online.count == 0 then line_with h.number (result_in heard) (plugged_in h.sizes c (result_in heard))
     else line_with h.number (result_now h) (but_first h.online)
 
 -- the host after its next action, of which it heard this; one that has ended stays so
 abbrev pub host_after : HostState → Heard → HostState
-host_after h heard = after_heard h.left h heard
+host_after h heard = host_after_at h.left h heard
 
 -- the line of the command that ended with that action, if one did
 abbrev pub line_after : HostState → Heard → Option HostLine
-line_after h heard = line_heard h.left h heard
+line_after h heard = line_after_at h.left h heard
 
 -- the host once it has heard of the action that it was to make
 abbrev pub host_heard : HostState → Heard → HostState
 host_heard h Start = h
 host_heard h heard = host_after h heard
 
-abbrev pub line_of_heard : HostState → Heard → Option HostLine
-line_of_heard h Start = None
-line_of_heard h heard = line_after h heard
+abbrev pub line_heard : HostState → Heard → Option HostLine
+line_heard h Start = None
+line_heard h heard = line_after h heard
 
 -- a host, and the line that it gives next, if any
 pub record HostView : Type 0 where

@@ -50,13 +50,13 @@ action_in (InCall at) (c ∷ cs) = action_at c at
 abbrev pub next_action : OwnerState → Action
 next_action a = action_in a.place a.left
 
-abbrev pub after_at : Place → List (PageNo × Call) → OwnerState → Heard → OwnerState
-after_at (Between (Some frame)) left a heard = record a { place = Between None }
-after_at (Between None) [] a heard = a
-after_at (Between None) (c ∷ cs) a heard = record a { place = behind_first a.cells c.1 heard }
-after_at (InCall at) [] a heard = a
-after_at (InCall at) (c ∷ cs) a heard = record a { left = calls_behind c cs at; place = place_behind a.cells c.1 at heard }
+abbrev pub owner_after_at : Place → List (PageNo × Call) → OwnerState → Heard → OwnerState
+owner_after_at (Between (Some frame)) left a heard = record a { place = Between None }
+owner_after_at (Between None) [] a heard = a
+owner_after_at (Between None) (c ∷ cs) a heard = record a { place = behind_first a.cells c.1 heard }
+owner_after_at (InCall at) [] a heard = a
+owner_after_at (InCall at) (c ∷ cs) a heard = record a { left = calls_behind c cs at; place = place_behind a.cells c.1 at heard }
 
 -- the owner after its next action, of which it heard this; one that has ended stays so
 abbrev pub owner_after : OwnerState → Heard → OwnerState
-owner_after a heard = after_at a.place a.left a heard
+owner_after a heard = owner_after_at a.place a.left a heard

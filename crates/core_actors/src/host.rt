@@ -1,37 +1,13 @@
 //! The host: the actions of its commands, one after another.
 
 ghost use Rattle.std.specs.Prelude.{◌≡◌, ◌+◌, ◌≤◌};
-ghost use Rattle.evac_model.specs.DeviceAnswer.{request_in};
-ghost use Rattle.evac_model.specs.HostCommands.{plugged_by};
 ghost use Rattle.core_actors.specs.Hosts.{device_call, plugged_in};
 
 use crate::action::{Action, DeviceCall, Heard, Others, SpaceCall};
 use crate::heard::result_in;
-use evac_model::{
-    BlockNo, CommandList, Geometry, HostCommand, HostLine, HostResult, Request, RequestBytes,
-    Response,
-};
-use mem_codec::read_request;
-use mem_device::range_at;
+use evac_model::{BlockNo, CommandList, Geometry, HostCommand, HostLine, HostResult, Response};
+use mem_device::plugged_by;
 use std::marker::Model;
-
-/// The first of the blocks that a request plugged, and how many they are: those of its range, where it is
-/// a PLUG of a good range and was acknowledged, and else none.
-pub fn plugged_by(g: &Geometry, bytes: &RequestBytes, response: &Response) -> (BlockNo, u32)
-    ensures first { result.0.0 ≡ (plugged_by g.now (request_in bytes.now) response.now).first }
-    ensures count { result.1 ≡ (plugged_by g.now (request_in bytes.now) response.now).count }
-    ensures managed { result.0.0 + result.1 ≤ g.now.managed }
-{
-    match (read_request(bytes.as_slice()), response) {
-        (Ok(Request::Plug { addr, count }), Response::Ack { .. }) => match range_at(
-            g, addr, count,
-        ) {
-            Some(first) => (first, count as u32),
-            None => (BlockNo(0), 0),
-        },
-        _ => (BlockNo(0), 0),
-    }
-}
 
 /// The blocks that a command with this result plugged.
 fn plugged_in(g: &Geometry, command: &HostCommand, given: &HostResult) -> (BlockNo, u32)
@@ -41,7 +17,7 @@ fn plugged_in(g: &Geometry, command: &HostCommand, given: &HostResult) -> (Block
 {
     match (command, given) {
         (HostCommand::Request { bytes }, HostResult::Answered(response)) => {
-            plugged_by(g, bytes, response)
+            plugged_by(g, bytes.as_slice(), response)
         }
         _ => (BlockNo(0), 0),
     }
@@ -86,7 +62,7 @@ impl Model for Host {
 
 impl Host {
     ghost use Rattle.std.specs.Prelude.{◌≡◌, false, None};
-    ghost use Rattle.core_actors.specs.Hosts.{host_at_start, host_ended, host_action, host_after, host_heard, line_after, line_of_heard, with_result, line_with, command_ended};
+    ghost use Rattle.core_actors.specs.Hosts.{host_at_start, host_ended, host_action, host_after, host_heard, line_after, line_heard, with_result, line_with, command_ended};
 
     /// The host of a machine, at the start of its commands.
     pub fn new(g: Geometry, commands: CommandList) -> Host
@@ -169,7 +145,7 @@ impl Host {
     /// `others` counts for later commands alone: none of these waits for another actor.
     pub fn next(&mut self, last: Heard, _others: Others) -> Action
         ensures state { self.new.state ≡ host_heard self.old.state last }
-        ensures line { self.new.line ≡ line_of_heard self.old.state last }
+        ensures line { self.new.line ≡ line_heard self.old.state last }
         ensures action { result ≡ host_action self.new.state }
     {
         match &last {

@@ -26,7 +26,7 @@ ghost use Rattle.core_actors.specs.declared.action.Action.{Action};
 ghost use Rattle.core_actors.specs.declared.action.Heard.{Heard};
 ghost use Rattle.core_actors.specs.declared.action.SpaceCall.{SpaceCall};
 ghost use Rattle.core_actors.specs.declared.action.LeaseSeen.{LeaseSeen};
-ghost use Rattle.core_actors.specs.CallRuns.{made_hearing, after_hearing, before_release};
+ghost use Rattle.core_actors.specs.CallRuns.{made_hearing, after_hearing, before_release, calls_heard, script_actions};
 ghost use Rattle.core_actors.specs.CallSteps.{IsCallOf, call_actions};
 ghost use Rattle.core_actors.specs.Owners.{OwnerState, owner_at_start, owner_ended, next_action, owner_after};
 ghost use Rattle.core_actors.specs.Actions.{owner_heard, heard_by, ends_with_next, IsStorable};
@@ -40,6 +40,14 @@ ghost use Rattle.core_actors.specs.Hosts.{HostState, host_at_start, host_ended, 
 /// word that its take found and the values that its loads gave are those of the list.
 pub fn owners_make_the_actions_of_their_calls()
     ensures { (owner : ℕ) (s : Sizes) (c : PageNo × Call) (cs : List (PageNo × Call)) (heards : List Heard) (lease : LeaseSeen) (found : ℕ) (loads : List ℕ) → IsCallOf s c → after_hearing (owner_at_start owner s.cells (c ∷ cs)) heards ≡ before_release owner s.cells (c ∷ cs) lease found loads → made_hearing (owner_at_start owner s.cells (c ∷ cs)) heards ++ next_action (before_release owner s.cells (c ∷ cs) lease found loads) ∷ [] ≡ call_actions s.cells c.0 c.1 lease found loads }
+{}
+
+/// An owner that goes on from its start until its script has ended makes exactly the actions of its calls, in order:
+/// those of each call's list, by what that call heard, and behind them the return of the frame that it leaves, if any.
+/// Each of its calls is ended once.
+pub fn owners_make_the_actions_of_their_scripts()
+    ensures actions { (owner : ℕ) (s : Sizes) (script : List (PageNo × Call)) (heards : List Heard) → AllByRecursion (λ c. IsCallOf s c) script → owner_ended (after_hearing (owner_at_start owner s.cells script) heards) ≡ true → made_hearing (owner_at_start owner s.cells script) heards ≡ script_actions s.cells script (calls_heard (owner_at_start owner s.cells script) heards) }
+    ensures calls { (owner : ℕ) (s : Sizes) (script : List (PageNo × Call)) (heards : List Heard) → AllByRecursion (λ c. IsCallOf s c) script → owner_ended (after_hearing (owner_at_start owner s.cells script) heards) ≡ true → length (calls_heard (owner_at_start owner s.cells script) heards) ≡ length script }
 {}
 
 /// The next action of an owner that hasn't ended is allowed, where its seat's view fits its place in the
@@ -94,8 +102,8 @@ pub fn ended_owners_have_their_entries()
     ensures hand { (s : Sizes) (o : Opening) (v : View) (script : List (PageNo × Call)) (a : OwnerState) → Fits s o script v a → owner_ended a ≡ true → (frame : ℕ) → hand_frame v frame ≡ None }
 {}
 
-/// Whether an owner ends with its next action doesn't depend on what that gives, where it is under way: the
-/// last one is a release or a return. At the start it does so only where it has no calls.
+/// Whether an owner ends with its next action doesn't depend on what that gives: the last one of a script is a
+/// release or a return. At the start it ends with the next one only where it has no calls, and so has ended.
 pub fn ends_are_known_before_the_last_action()
     ensures start { (owner cells : ℕ) (script : List (PageNo × Call)) → ends_with_next (owner_at_start owner cells script) ≡ owner_ended (owner_at_start owner cells script) }
     ensures action { (a : OwnerState) (heard : Heard) → owner_ended (owner_after a heard) ≡ ends_with_next a }

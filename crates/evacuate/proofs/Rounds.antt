@@ -7,7 +7,7 @@ use Rattle.evac_model.specs.declared.evacuation.MoveLease.{MoveLease}
 use Rattle.evac_model.specs.Geometry.{Sizes}
 use Rattle.evac_model.proofs.Lists.{all_weaker}
 use Rattle.evacuate.specs.declared.stage.Attempt.{Attempt}
-use Rattle.evacuate.specs.Tale.{last_frame, is_next, AreInOrder, IsMoved, if_busy, first_busy, WasBusyBefore, WereOutBefore}
+use Rattle.evacuate.specs.Tale.{last_frame, is_next, AreInOrder, IsMoved, busy_lease, first_busy, WasBusyBefore, WereBusyBefore}
 use Rattle.evacuate.proofs.Frames.{next_behind}
 
 pub contains_head : {X : Type 0} → (x : X) (xs : List X) → Contains (x ∷ xs) x
@@ -18,7 +18,7 @@ contains_tail x y xs h = (suc h.0, omega (arith, h.1), h.2)
 
 -- ---- the first busy page
 
-attempt_moved : (a : Attempt) (found : Option ℕ) → if_busy a.lease found ≡ None → found ≡ None
+attempt_moved : (a : Attempt) (found : Option ℕ) → busy_lease a.lease found ≡ None → found ≡ None
 attempt_moved a None h = refl
 attempt_moved a (Some word) h = cc
 
@@ -30,7 +30,7 @@ or_none (Some x) y h = cc
 pub all_moved : (attempts : List Attempt) → first_busy attempts ≡ None → AllByRecursion IsMoved attempts
 all_moved [] h = tt
 all_moved (a ∷ attempts) h =
-    let both = or_none (first_busy attempts) (if_busy a.lease a.found) h in
+    let both = or_none (first_busy attempts) (busy_lease a.lease a.found) h in
     (attempt_moved a a.found both.1, all_moved attempts both.0)
 
 -- the first busy page was busy, by the word found for it
@@ -38,7 +38,7 @@ pub record IsAttempted (attempts : List Attempt) (lease : MoveLease) : Type 0 wh
   pub word : ℕ
   pub there : Contains attempts (record { lease = lease; found = Some word })
 
-attempted_here : (l : MoveLease) (found : Option ℕ) (attempts : List Attempt) (lease : MoveLease) → if_busy l found ≡ Some lease → IsAttempted (record { lease = l; found = found } ∷ attempts) lease
+attempted_here : (l : MoveLease) (found : Option ℕ) (attempts : List Attempt) (lease : MoveLease) → busy_lease l found ≡ Some lease → IsAttempted (record { lease = l; found = found } ∷ attempts) lease
 attempted_here l None attempts lease h = cc
 attempted_here l (Some word) attempts lease h =
     let same : l ≡ lease = cc in
@@ -50,7 +50,7 @@ attempted_tail : (a : Attempt) (attempts : List Attempt) (lease : MoveLease) →
 attempted_tail a attempts lease h =
     record { word = h.word; there = contains_tail (record { lease = lease; found = Some h.word }) a attempts h.there }
 
-mutual_first : (a : Attempt) (attempts : List Attempt) (lease : MoveLease) (before : Option MoveLease) → first_busy attempts ≡ before → option_or before (if_busy a.lease a.found) ≡ Some lease → ((first_busy attempts ≡ Some lease) → IsAttempted attempts lease) → IsAttempted (a ∷ attempts) lease
+mutual_first : (a : Attempt) (attempts : List Attempt) (lease : MoveLease) (before : Option MoveLease) → first_busy attempts ≡ before → option_or before (busy_lease a.lease a.found) ≡ Some lease → ((first_busy attempts ≡ Some lease) → IsAttempted attempts lease) → IsAttempted (a ∷ attempts) lease
 mutual_first a attempts lease None e h go = attempted_here a.lease a.found attempts lease h
 mutual_first a attempts lease (Some x) e h go = attempted_tail a attempts lease (go (e ∙ h))
 
@@ -71,9 +71,9 @@ all_below s b frame (a ∷ attempts) order next =
 -- ---- rounds behind one another
 
 -- the next attempt is on a page that was busy before
-pub out_before_more : (a : Attempt) (attempts : List Attempt) (rounds : List (List Attempt)) → WasBusyBefore rounds a.lease.from a.lease.page → WereOutBefore attempts rounds → WereOutBefore (a ∷ attempts) rounds
-out_before_more a attempts [] before h = tt
-out_before_more a attempts (r ∷ rounds) before h = ((before, h.0), h.1)
+pub busy_before_more : (a : Attempt) (attempts : List Attempt) (rounds : List (List Attempt)) → WasBusyBefore rounds a.lease.from a.lease.page → WereBusyBefore attempts rounds → WereBusyBefore (a ∷ attempts) rounds
+busy_before_more a attempts [] before h = tt
+busy_before_more a attempts (r ∷ rounds) before h = ((before, h.0), h.1)
 
-pub out_before_none : (attempts : List Attempt) (rounds : List (List Attempt)) → WereOutBefore attempts rounds → WereOutBefore [] (attempts ∷ rounds)
-out_before_none attempts rounds h = (tt, h)
+pub busy_before_none : (attempts : List Attempt) (rounds : List (List Attempt)) → WereBusyBefore attempts rounds → WereBusyBefore [] (attempts ∷ rounds)
+busy_before_none attempts rounds h = (tt, h)

@@ -22,11 +22,11 @@ use Rattle.evacuate.specs.declared.stage.Stage.TheVariants.{Isolating, Leasing, 
 use Rattle.evacuate.specs.Found.{is_busy, is_pinned}
 use Rattle.evacuate.specs.Tale.{Exchange, Tale, nothing_tried, last_frame, told_of, frame_back, attempts_log, rounds_log, round_end, tale_log, is_next, AreInOrder, IsMovedOrBusy, first_busy, WasBusyBefore, is_repeated, round_over}
 use Rattle.evacuate.specs.Causes.{AreFound, WasBusyInFive}
-use Rattle.evacuate.specs.Evacuating.{Evacuating, action_at, answers, is_answer, place_of, word_place, five_words, busy_cause, round_ended, attempt_over, after_answer, evacuation_after}
-use Rattle.evacuate.specs.UnderWay.{lease_told, log_at, log_of, AreKept, IsInRound, IsNextAttempt, Stands, GoesBy, WasOutBefore, tale_at, GoesOn}
-use Rattle.evacuate.proofs.Frames.{next_in_block}
-use Rattle.evacuate.proofs.Rounds.{all_moved, first_attempted, out_before_more, out_before_none}
-use Rattle.evacuate.proofs.Kept.{all_of, kept_moved, kept_busy, words_down, found_each, five_down}
+use Rattle.evacuate.specs.Evacuating.{Evacuating, action_at, answers, is_answer, place_of, words_of, with_word, busy_cause, round_ended, attempt_over, after_answer, evacuation_after}
+use Rattle.evacuate.specs.UnderWay.{lease_told, log_at, log_of, AreKept, IsInRound, IsNextAttempt, Stands, GoesBy, LeasedWasBusy, tale_at, GoesOnBy}
+use Rattle.evacuate.proofs.Frames.{inside_block, next_in_block}
+use Rattle.evacuate.proofs.Rounds.{all_moved, first_attempted, busy_before_more, busy_before_none}
+use Rattle.evacuate.proofs.Kept.{all_of, kept_moved, kept_busy, next_room, place_room, places_kept, words_down, found_each, five_down, row_has_five}
 
 or_none_right : (x : Option MoveLease) → option_or x None ≡ x
 or_none_right None = refl
@@ -68,7 +68,7 @@ standing st stage = record st { stage = stage }
 module _ (st : Evacuating) (tale : Tale) (g : GoesBy st tale) where
   stay : (stage : Stage) → Stands (standing st stage) tale stage → GoesBy (standing st stage) tale
   stay stage stands =
-      record { room = g.room; few = g.few; counted = g.counted; rounds = g.rounds; in_order = g.in_order; out_before = g.out_before; stands = stands }
+      record { frames = g.frames; places = g.places; few = g.few; counted = g.counted; rounds = g.rounds; in_order = g.in_order; busy_before = g.busy_before; stands = stands }
 
   still_in_round : (stage : Stage) → IsInRound st tale → IsInRound (standing st stage) tale
   still_in_round stage r = record { moved_or_busy = r.moved_or_busy; busy = r.busy; kept = r.kept }
@@ -136,29 +136,32 @@ module _ (st : Evacuating) (tale : Tale) (g : GoesBy st tale) where
   repeated : (after : Option FrameNo) → after ≡ last_frame tale.attempts → IsInRound st tale → is_some (first_busy tale.attempts) ≡ true → length tale.rounds < 4 → LeadsTo st tale (Leasing after) seen.NoneLeft (record st { stage = Leasing None; round = st.round + 1; busy = None }) another_round
   repeated after e r some few = record {
     goes_by = record {
-      room = g.room;
+      frames = g.frames;
+      places = g.places;
       few = few;
       counted = let same = g.counted in omega arith;
       rounds = (record { in_order = g.in_order; moved_or_busy = r.moved_or_busy; one_busy = some }, g.rounds);
       in_order = tt;
-      out_before = out_before_none tale.attempts tale.rounds g.out_before;
+      busy_before = busy_before_none tale.attempts tale.rounds g.busy_before;
       stands = (refl, record { moved_or_busy = tt; busy = refl; kept = (tt, r.kept) });
     };
     log = round_log (record { asked = action.Isolate st.block; told = seen.Isolated }) (round_end st.block tale.attempts) (rounds_log st.block tale.rounds) (attempts_log st.block tale.attempts)
         ∙ round_end_log after e;
   }
 
-  busy_found : (lease : MoveLease) → first_busy tale.attempts ≡ Some lease → IsInRound st tale → length tale.rounds ≡ 4 → WasBusyInFive tale lease.from lease.page (five_words st.words (place_of st.sizes st.block lease.from))
+  busy_found : (lease : MoveLease) → first_busy tale.attempts ≡ Some lease → IsInRound st tale → length tale.rounds ≡ 4 → WasBusyInFive tale lease.from lease.page (words_of st.words (place_of st.sizes st.block lease.from))
   busy_found lease first r four =
       let tried = first_attempted tale.attempts lease first in
       let words : List ℕ → Type 0 = λ ws. AreFound lease.from lease.page (tale.attempts ∷ tale.rounds) ws in
-      let place = place_of st.sizes st.block lease.from in
-      let each = found_each st.sizes st.block st.words lease.from lease.page tale.attempts tale.rounds tried.word r.moved_or_busy g.rounds r.kept g.out_before (record { target = lease.target; there = tried.there }) in
+      let row : List ℕ = words_of st.words (place_of st.sizes st.block lease.from) in
+      let in_block = all_of (λ (a : Attempt). is_frame_of st.sizes st.block.0 a.lease.from.0 ≡ true) tale.attempts (record { lease = lease; found = Some tried.word }) (all_in_block st.sizes st.block tale.attempts g.in_order) tried.there in
+      let five = row_has_five st.words (place_of st.sizes st.block lease.from) g.places (place_room st.sizes st.block st.words lease.from g.frames (inside_block st.sizes st.block lease.from.0 in_block)) in
+      let each = found_each st.sizes st.block st.words lease.from lease.page tale.attempts tale.rounds tried.word r.moved_or_busy g.rounds r.kept g.busy_before (record { target = lease.target; there = tried.there }) in
       record {
         target = lease.target;
         first = first;
-        five = refl;
-        found = subst words (five_down st.words place) (subst (λ (n : ℕ). words (words_down st.words place n)) (ap suc four) each);
+        five = five;
+        found = subst words (five_down row five) (subst (λ (n : ℕ). words (words_down row n)) (ap suc four) each);
         round_over = r.moved_or_busy;
       }
 
@@ -220,12 +223,13 @@ module _ (st : Evacuating) (tale : Tale) (g : GoesBy st tale) where
   old_given_back : (lease : MoveLease) → IsNextAttempt st tale (record { lease = lease; found = None }) → IsInRound st tale → LeadsTo st tale (Returning (record { lease = lease; found = None })) seen.Done (standing st (Leasing (Some lease.from))) (one_more lease None)
   old_given_back lease next r = record {
     goes_by = record {
-      room = g.room;
+      frames = g.frames;
+      places = g.places;
       few = g.few;
       counted = g.counted;
       rounds = g.rounds;
       in_order = (next.next, g.in_order);
-      out_before = out_before_more (record { lease = lease; found = None }) tale.attempts tale.rounds next.before g.out_before;
+      busy_before = busy_before_more (record { lease = lease; found = None }) tale.attempts tale.rounds next.before g.busy_before;
       stands = (
         refl,
         record {
@@ -247,12 +251,13 @@ module _ (st : Evacuating) (tale : Tale) (g : GoesBy st tale) where
       let same : tale_log st.block (one_more lease (Some word)) ++ [] ≡ log ++ given ∷ [] = append-nil (tale_log st.block (one_more lease (Some word))) ∙ one_more_log lease (Some word) in
       record {
         goes_by = record {
-          room = g.room;
+          frames = g.frames;
+          places = g.places;
           few = g.few;
           counted = g.counted;
           rounds = g.rounds;
           in_order = (next.next, g.in_order);
-          out_before = out_before_more (record { lease = lease; found = Some word }) tale.attempts tale.rounds next.before g.out_before;
+          busy_before = busy_before_more (record { lease = lease; found = Some word }) tale.attempts tale.rounds next.before g.busy_before;
           stands = record {
             in_block = next_in_block st.sizes st.block (last_frame tale.attempts) lease.from.0 next.next;
             found = record {
@@ -268,30 +273,31 @@ module _ (st : Evacuating) (tale : Tale) (g : GoesBy st tale) where
         log = same;
       }
 
-  busy_given_back : (lease : MoveLease) (word : ℕ) → is_busy word lease.from.0 ≡ true → IsNextAttempt st tale (record { lease = lease; found = Some word }) → IsInRound st tale → LeadsTo st tale (Returning (record { lease = lease; found = Some word })) seen.Done (record st { stage = Leasing (Some lease.from); busy = option_or st.busy (Some lease); words = set st.words (word_place (place_of st.sizes st.block lease.from) st.round) word }) (one_more lease (Some word))
+  busy_given_back : (lease : MoveLease) (word : ℕ) → is_busy word lease.from.0 ≡ true → IsNextAttempt st tale (record { lease = lease; found = Some word }) → IsInRound st tale → LeadsTo st tale (Returning (record { lease = lease; found = Some word })) seen.Done (record st { stage = Leasing (Some lease.from); busy = option_or st.busy (Some lease); words = with_word st.words (place_of st.sizes st.block lease.from) st.round word }) (one_more lease (Some word))
   busy_given_back lease word busy next r = record {
     goes_by = record {
-      room = let same = length-set st.words (word_place (place_of st.sizes st.block lease.from) st.round) word in let old = g.room in omega arith;
+      frames = let same = length-set st.words (place_of st.sizes st.block lease.from) (set (words_of st.words (place_of st.sizes st.block lease.from)) st.round word) in let old = g.frames in omega arith;
+      places = places_kept st.words (place_of st.sizes st.block lease.from) st.round word (next_room st.sizes st.block st.words lease tale.attempts g.frames next.next) g.places;
       few = g.few;
       counted = g.counted;
       rounds = g.rounds;
       in_order = (next.next, g.in_order);
-      out_before = out_before_more (record { lease = lease; found = Some word }) tale.attempts tale.rounds next.before g.out_before;
+      busy_before = busy_before_more (record { lease = lease; found = Some word }) tale.attempts tale.rounds next.before g.busy_before;
       stands = (
         refl,
         record {
           moved_or_busy = (busy, r.moved_or_busy);
           busy = ap (λ (o : Option MoveLease). option_or o (Some lease)) r.busy;
           kept =
-              subst (λ (n : ℕ). AreKept st.sizes st.block (set st.words (word_place (place_of st.sizes st.block lease.from) n) word) ((record { lease = lease; found = Some word } ∷ tale.attempts) ∷ tale.rounds)) (sym g.counted)
-              (kept_busy st.sizes st.block st.words lease word tale.attempts tale.rounds g.few g.room g.in_order next.next r.kept);
+              subst (λ (n : ℕ). AreKept st.sizes st.block (with_word st.words (place_of st.sizes st.block lease.from) n word) ((record { lease = lease; found = Some word } ∷ tale.attempts) ∷ tale.rounds)) (sym g.counted)
+              (kept_busy st.sizes st.block st.words lease word tale.attempts tale.rounds g.few g.frames g.places g.in_order next.next r.kept);
         },
       );
     };
     log = one_more_log lease (Some word);
   }
 
-  target_given_back : (lease : MoveLease) (word : ℕ) (pinned : Bool) → is_pinned word lease.from.0 ≡ pinned → (is_busy word lease.from.0 || is_pinned word lease.from.0) ≡ true → IsNextAttempt st tale (record { lease = lease; found = Some word }) → IsInRound st tale → LeadsTo st tale (Returning (record { lease = lease; found = Some word })) seen.Done (if pinned then standing st (Undoing (cause.Pinned lease.from lease.page word)) else record st { stage = Leasing (Some lease.from); busy = option_or st.busy (Some lease); words = set st.words (word_place (place_of st.sizes st.block lease.from) st.round) word }) (one_more lease (Some word))
+  target_given_back : (lease : MoveLease) (word : ℕ) (pinned : Bool) → is_pinned word lease.from.0 ≡ pinned → (is_busy word lease.from.0 || is_pinned word lease.from.0) ≡ true → IsNextAttempt st tale (record { lease = lease; found = Some word }) → IsInRound st tale → LeadsTo st tale (Returning (record { lease = lease; found = Some word })) seen.Done (if pinned then standing st (Undoing (cause.Pinned lease.from lease.page word)) else record st { stage = Leasing (Some lease.from); busy = option_or st.busy (Some lease); words = with_word st.words (place_of st.sizes st.block lease.from) st.round word }) (one_more lease (Some word))
   target_given_back lease word true e h next r = pinned_given_back lease word e next r
   target_given_back lease word false e h next r =
       busy_given_back lease word (first_of_two (is_busy word lease.from.0) (is_pinned word lease.from.0) h e) next r
@@ -339,7 +345,7 @@ module _ (st : Evacuating) (tale : Tale) (g : GoesBy st tale) where
 
   -- all of these
 
-  leads : (stage : Stage) (told : EvacSeen) → Stands st tale stage → answers st.sizes st.block stage told ≡ true → WasOutBefore tale told → LeadsTo st tale stage told (after_answer st stage told) (tale_at tale stage told)
+  leads : (stage : Stage) (told : EvacSeen) → Stands st tale stage → answers st.sizes st.block stage told ≡ true → LeasedWasBusy tale told → LeadsTo st tale stage told (after_answer st stage told) (tale_at tale stage told)
   leads Isolating seen.Isolated s h w = isolated s.0 s.1
   leads Isolating (seen.Refused frame page) s h w = refused frame page h
   leads (Leasing after) (seen.Leased lease) s h w = leased after lease s.0 s.1 h w
@@ -351,7 +357,7 @@ module _ (st : Evacuating) (tale : Tale) (g : GoesBy st tale) where
   leads (Undoing why) seen.Done s h w = undo_over why s
   leads _ _ s h w = let never : false ≡ true = h in cc
 
-pub goes_on : (st : Evacuating) (tale : Tale) (told : EvacSeen) → GoesBy st tale → is_answer st told ≡ true → WasOutBefore tale told → GoesOn st (evacuation_after st told) tale told
+pub goes_on : (st : Evacuating) (tale : Tale) (told : EvacSeen) → GoesBy st tale → is_answer st told ≡ true → LeasedWasBusy tale told → GoesOnBy st (evacuation_after st told) tale told
 goes_on st tale told g h w =
     let lead = leads st tale g st.stage told g.stands h w in
-    subst (λ (t : Bool). GoesOn st (if t then after_answer st st.stage told else st) tale told) (sym h) (record { goes_by = lead.goes_by; log = lead.log })
+    subst (λ (t : Bool). GoesOnBy st (if t then after_answer st st.stage told else st) tale told) (sym h) (record { goes_by = lead.goes_by; log = lead.log })

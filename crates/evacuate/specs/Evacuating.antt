@@ -1,5 +1,5 @@
 -- What an evacuation keeps, which answers fit what it asked, and what it does next.
-use Rattle.std.specs.Prelude.{ℕ, ◌+◌, ◌-◌, ◌*◌, Bool, true, false, ◌||◌, nat_lt, if◌then◌else◌, List, [], ◌∷◌, Option, None, Some, slice_index_or, slice_set}
+use Rattle.std.specs.Prelude.{ℕ, ◌+◌, ◌-◌, Bool, true, false, ◌||◌, nat_lt, if◌then◌else◌, List, [], Option, None, Some, slice_index_or, slice_set}
 use Rattle.std.specs.Option.{option_or}
 use Rattle.evac_model.specs.declared.names.BlockNo.{BlockNo}
 use Rattle.evac_model.specs.declared.names.FrameNo.{FrameNo}
@@ -18,14 +18,14 @@ use Rattle.evacuate.specs.Found.{is_busy, is_pinned}
 use Rattle.evacuate.specs.Tale.{frame_back, is_next}
 
 -- The machine's sizes and the block; where the evacuation stands; how many rounds ended; the first page that
--- was busy in the round under way; and the words found, five places for each frame of the block.
+-- was busy in the round under way; and the words found: for each frame of the block, in order, that of each round.
 pub record Evacuating : Type 0 where
   pub sizes : Sizes
   pub block : BlockNo
   pub stage : Stage
   pub round : ℕ
   pub busy : Option MoveLease
-  pub words : List ℕ
+  pub words : List (List ℕ)
 
 -- ---- what it asks
 
@@ -66,19 +66,17 @@ is_answer st told = answers st.sizes st.block st.stage told
 abbrev pub place_of : Sizes → BlockNo → FrameNo → ℕ
 place_of s b frame = frame.0 - first_frame s b.0
 
--- where the word found for a frame stands, of each round
-abbrev pub word_place : (place round : ℕ) → ℕ
-word_place place round = place * 5 + round
+-- the words found for a frame, one a round
+abbrev pub words_of : (words : List (List ℕ)) (place : ℕ) → List ℕ
+words_of words place = slice_index_or words place []
 
-abbrev pub five_words : (words : List ℕ) (place : ℕ) → List ℕ
-five_words words place =
-    slice_index_or words (word_place place 0) 0 ∷ slice_index_or words (word_place place 1) 0
-    ∷ slice_index_or words (word_place place 2) 0 ∷ slice_index_or words (word_place place 3) 0
-    ∷ slice_index_or words (word_place place 4) 0 ∷ []
+-- the words, once this one was found for a frame in a round
+abbrev pub with_word : (words : List (List ℕ)) (place round word : ℕ) → List (List ℕ)
+with_word words place round word = slice_set words place (slice_set (words_of words place) round word)
 
 -- the cause of a page that was the first busy one of the fifth round
 abbrev pub busy_cause : Evacuating → MoveLease → EvacCause
-busy_cause st lease = cause.Busy lease.from lease.page (five_words st.words (place_of st.sizes st.block lease.from))
+busy_cause st lease = cause.Busy lease.from lease.page (words_of st.words (place_of st.sizes st.block lease.from))
 
 -- No later frame is out: the round is over. Without a busy page the block is empty; with one, another round
 -- follows, but for the fifth.
@@ -97,7 +95,7 @@ not_moved st lease word =
     else record st {
       stage = Leasing (Some lease.from);
       busy = option_or st.busy (Some lease);
-      words = slice_set st.words (word_place (place_of st.sizes st.block lease.from) st.round) word;
+      words = with_word st.words (place_of st.sizes st.block lease.from) st.round word;
     }
 
 abbrev pub attempt_over : Evacuating → MoveLease → Option ℕ → Evacuating

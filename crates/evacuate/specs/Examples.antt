@@ -4,6 +4,7 @@ use Rattle.evac_model.specs.declared.names.BlockNo.{BlockNo}
 use Rattle.evac_model.specs.declared.names.FrameNo.{FrameNo}
 use Rattle.evac_model.specs.declared.names.PageNo.{PageNo}
 use Rattle.evac_model.specs.declared.evacuation.MoveLease.{MoveLease}
+use Rattle.evac_model.specs.declared.evacuation.EvacCause.{EvacCause}
 use Rattle.evac_model.specs.declared.evacuation.EvacCause.TheVariants as cause
 use Rattle.evac_model.specs.Examples.{small}
 use Rattle.evacuate.specs.declared.action.EvacAction.{EvacAction}
@@ -14,7 +15,7 @@ use Rattle.evacuate.specs.declared.stage.Attempt.{Attempt}
 use Rattle.evacuate.specs.declared.stage.Stage.TheVariants as stage
 use Rattle.evacuate.specs.Found.{is_busy, is_pinned}
 use Rattle.evacuate.specs.Tale.{Tale, Exchange, IsRound}
-use Rattle.evacuate.specs.Causes.{AreFound}
+use Rattle.evacuate.specs.Causes.{AreFound, IsCauseMet}
 use Rattle.evacuate.specs.Evacuating.{Evacuating, action_of, evacuation_after}
 use Rattle.evacuate.specs.UnderWay.{log_at}
 
@@ -23,7 +24,7 @@ abbrev pub block_3 : BlockNo
 block_3 = record { 0 = 3 }
 
 abbrev pub before_evacuation : Evacuating
-before_evacuation = record { sizes = small; block = block_3; stage = stage.Isolating; round = 0; busy = None; words = replicate 20 0 }
+before_evacuation = record { sizes = small; block = block_3; stage = stage.Isolating; round = 0; busy = None; words = replicate 4 (replicate 5 0) }
 
 -- the actions that these answers get, one after another
 abbrev pub actions_told : Evacuating → List EvacSeen → List EvacAction
@@ -72,6 +73,17 @@ found_busy word = record { lease = page_0; found = Some word }
 -- page 0 was busy in a round, and moved in the next one
 abbrev pub moved_later : Tale
 moved_later = record { rounds = (found_busy 20485 ∷ []) ∷ []; attempts = record { lease = page_0; found = None } ∷ [] }
+
+-- page 5 was busy behind page 0
+abbrev pub both_busy : ℕ → List Attempt
+both_busy word = record { lease = page_5; found = Some 1 } ∷ found_busy word ∷ []
+
+-- both pages were busy in each of five rounds
+abbrev pub five_rounds : Tale
+five_rounds = record { rounds = both_busy 1 ∷ both_busy 16388 ∷ both_busy 0 ∷ both_busy 20485 ∷ []; attempts = both_busy 20487 }
+
+abbrev pub IsMetAfterFive : EvacCause → Type 0
+IsMetAfterFive why = IsCauseMet small block_3 five_rounds (log_at block_3 five_rounds (stage.Failed why)) why
 
 abbrev pub exchange : EvacAction → EvacSeen → Exchange
 exchange asked told = record { asked = asked; told = told }
@@ -129,6 +141,10 @@ pub record TalesOfSmall : Type 0 where
       ∷ exchange (lease_behind 20) NoneLeft
       ∷ exchange (Lease block_3 None) (Leased page_0) ∷ exchange (Move page_0) Moved ∷ exchange (give_back 20) Done
       ∷ exchange (lease_behind 20) NoneLeft ∷ []
+  pub busy_in_five_rounds : IsMetAfterFive (cause.Busy (frame_no 20) (page_no 0) (20485 ∷ 0 ∷ 16388 ∷ 1 ∷ 20487 ∷ []))
+  pub words_of_other_rounds : ¬ IsMetAfterFive (cause.Busy (frame_no 20) (page_no 0) (0 ∷ 20485 ∷ 16388 ∷ 1 ∷ 20487 ∷ []))
+  pub not_the_first_busy_page : ¬ IsMetAfterFive (cause.Busy (frame_no 22) (page_no 5) (1 ∷ 1 ∷ 1 ∷ 1 ∷ 1 ∷ []))
+  pub frame_of_another_block : ¬ IsMetAfterFive (cause.Busy (frame_no 24) (page_no 0) (20485 ∷ 0 ∷ 16388 ∷ 1 ∷ 20487 ∷ []))
   pub four_rounds_are_not_five :
       ¬ AreFound (frame_no 20) (page_no 0) ((found_busy 1 ∷ []) ∷ (found_busy 1 ∷ []) ∷ (found_busy 1 ∷ []) ∷ (found_busy 1 ∷ []) ∷ []) (1 ∷ 1 ∷ 1 ∷ 1 ∷ 1 ∷ [])
   pub a_free_page_is_not_busy : ¬ AreFound (frame_no 20) (page_no 0) ((found_busy 20484 ∷ []) ∷ []) (20484 ∷ [])

@@ -102,14 +102,14 @@ abbrev pub IsMoved : Attempt → Type 0
 IsMoved a = a.found ≡ None
 
 -- the page of a busy attempt
-abbrev pub if_busy : MoveLease → Option ℕ → Option MoveLease
-if_busy lease None = None
-if_busy lease (Some word) = Some lease
+abbrev pub busy_lease : MoveLease → Option ℕ → Option MoveLease
+busy_lease lease None = None
+busy_lease lease (Some word) = Some lease
 
 -- the first page of a round that was busy
 abbrev pub first_busy : List Attempt → Option MoveLease
 first_busy [] = None
-first_busy (a ∷ attempts) = option_or (first_busy attempts) (if_busy a.lease a.found)
+first_busy (a ∷ attempts) = option_or (first_busy attempts) (busy_lease a.lease a.found)
 
 -- in a round, this word was found for the page, which was out in that frame
 pub record WasFound (attempts : List Attempt) (frame : FrameNo) (page : PageNo) (word : ℕ) : Type 0 where
@@ -135,10 +135,10 @@ WasBusyBefore (r ∷ rounds) frame page = WasBusy r frame page
 
 -- no frame of the block is leased while it is isolated: those out in a round were out for the same pages in
 -- the round before, and were not moved in it
-abbrev pub WereOutBefore : List Attempt → List (List Attempt) → Type 0
-WereOutBefore attempts [] = Unit {0}
-WereOutBefore attempts (r ∷ rounds) =
-    AllByRecursion (λ a. WasBusy r a.lease.from a.lease.page) attempts × WereOutBefore r rounds
+abbrev pub WereBusyBefore : List Attempt → List (List Attempt) → Type 0
+WereBusyBefore attempts [] = Unit {0}
+WereBusyBefore attempts (r ∷ rounds) =
+    AllByRecursion (λ a. WasBusy r a.lease.from a.lease.page) attempts × WereBusyBefore r rounds
 
 -- whether another round is made behind the one under way: a page was busy in it, and it isn't the fifth
 abbrev pub is_repeated : Tale → Bool

@@ -11,9 +11,9 @@ use Rattle.evacuate.specs.declared.seen.EvacSeen.TheVariants as seen
 use Rattle.evacuate.specs.declared.stage.Attempt.{Attempt}
 use Rattle.evacuate.specs.declared.stage.Stage.{Stage}
 use Rattle.evacuate.specs.declared.stage.Stage.TheVariants.{Isolating, Leasing, Moving, Returning, Undoing, Emptied, Failed}
-use Rattle.evacuate.specs.Tale.{Exchange, Tale, nothing_tried, last_frame, told_of, tale_log, round_end, round_over, is_next, AreInOrder, IsMoved, IsMovedOrBusy, first_busy, IsRound, WasBusyBefore, WereOutBefore}
+use Rattle.evacuate.specs.Tale.{Exchange, Tale, nothing_tried, last_frame, told_of, tale_log, round_end, round_over, is_next, AreInOrder, IsMoved, IsMovedOrBusy, first_busy, IsRound, WasBusyBefore, WereBusyBefore}
 use Rattle.evacuate.specs.Causes.{IsCauseMet}
-use Rattle.evacuate.specs.Evacuating.{Evacuating, place_of, word_place, is_answer, action_of}
+use Rattle.evacuate.specs.Evacuating.{Evacuating, place_of, words_of, is_answer, action_of}
 
 -- ---- what was asked and told
 
@@ -49,12 +49,12 @@ log_of st tale = log_at st.block tale st.stage
 
 -- ---- what was kept
 
--- the word found stands in its place
-abbrev pub IsKept : Sizes → BlockNo → (words : List ℕ) (round : ℕ) → Attempt → Type 0
+-- the word found is kept for its frame and round
+abbrev pub IsKept : Sizes → BlockNo → (words : List (List ℕ)) (round : ℕ) → Attempt → Type 0
 IsKept s b words round a =
-    (word : ℕ) → a.found ≡ Some word → slice_index_or words (word_place (place_of s b a.lease.from) round) 0 ≡ word
+    (word : ℕ) → a.found ≡ Some word → slice_index_or (words_of words (place_of s b a.lease.from)) round 0 ≡ word
 
-abbrev pub AreKept : Sizes → BlockNo → (words : List ℕ) → List (List Attempt) → Type 0
+abbrev pub AreKept : Sizes → BlockNo → (words : List (List ℕ)) → List (List Attempt) → Type 0
 AreKept s b words [] = Unit {0}
 AreKept s b words (r ∷ rounds) = AllByRecursion (IsKept s b words (length rounds)) r × AreKept s b words rounds
 
@@ -82,22 +82,24 @@ Stands st tale Emptied = AllByRecursion IsMoved tale.attempts
 Stands st tale (Failed why) = IsCauseMet st.sizes st.block tale (log_at st.block tale (Failed why)) why
 
 -- The evacuation goes by its tale: at most four rounds ended with a busy page before the one under way, each
--- a round over the block, and what holds where it stands. There are five places for words of each frame.
+-- a round over the block, and what holds where it stands. The words have a list for each frame of the block, with
+-- a place for each of five rounds.
 pub record GoesBy (st : Evacuating) (tale : Tale) : Type 0 where
-  pub room : st.sizes.block * 5 ≤ length st.words
+  pub frames : st.sizes.block ≤ length st.words
+  pub places : AllByRecursion (λ row. length row ≡ 5) st.words
   pub few : length tale.rounds ≤ 4
   pub counted : st.round ≡ length tale.rounds
   pub rounds : AllByRecursion (IsRound st.sizes st.block) tale.rounds
   pub in_order : AreInOrder st.sizes st.block tale.attempts
-  pub out_before : WereOutBefore tale.attempts tale.rounds
+  pub busy_before : WereBusyBefore tale.attempts tale.rounds
   pub stands : Stands st tale st.stage
 
 -- ---- one answer more
 
 -- while a block is isolated, no frame of it is leased: one that is out was out before, for the same page
-abbrev pub WasOutBefore : Tale → EvacSeen → Type 0
-WasOutBefore tale (seen.Leased lease) = WasBusyBefore tale.rounds lease.from lease.page
-WasOutBefore tale _ = Unit {0}
+abbrev pub LeasedWasBusy : Tale → EvacSeen → Type 0
+LeasedWasBusy tale (seen.Leased lease) = WasBusyBefore tale.rounds lease.from lease.page
+LeasedWasBusy tale _ = Unit {0}
 
 -- an attempt counts once its frame is given back
 abbrev pub tale_at : Tale → Stage → EvacSeen → Tale
@@ -109,7 +111,7 @@ abbrev pub tale_after : Evacuating → Tale → EvacSeen → Tale
 tale_after st tale told = tale_at tale st.stage told
 
 -- behind an answer the evacuation goes by the longer tale, whose log has what was asked and told behind the rest
-pub record GoesOn (st after : Evacuating) (tale : Tale) (told : EvacSeen) : Type 0 where
+pub record GoesOnBy (st after : Evacuating) (tale : Tale) (told : EvacSeen) : Type 0 where
   pub goes_by : GoesBy after (tale_after st tale told)
   pub log : log_of after (tale_after st tale told) ≡ log_of st tale ++ record { asked = action_of st; told = told } ∷ []
 

@@ -8,7 +8,7 @@ use crate::answers::answers;
 use crate::found::is_pinned;
 use crate::seen::EvacSeen;
 use crate::stage::{Attempt, Stage};
-use crate::words::{WORD_PLACES, five_words, keep_word, no_words};
+use crate::words::{FRAMES, five_words, keep_word, no_words};
 use evac_model::{BlockNo, FrameNo, Geometry, MoveLease};
 use std::marker::Model;
 
@@ -23,7 +23,7 @@ pub struct Evacuation {
     stage: Stage,
     round: u32,
     busy: Option<MoveLease>,
-    words: [u64; WORD_PLACES],
+    words: [[u64; 5]; FRAMES],
 }
 
 impl Model for Evacuation {
@@ -54,7 +54,7 @@ impl Evacuation {
     ghost use Rattle.evacuate.specs.Tale as tale;
     ghost use Rattle.evacuate.specs.Evacuating as spec;
     ghost use Rattle.evacuate.specs.declared.stage.Stage.{Stage};
-    ghost use Rattle.evacuate.specs.UnderWay.{GoesBy, GoesOn, WasOutBefore, HasEmptied, HasFailed, log_of};
+    ghost use Rattle.evacuate.specs.UnderWay.{GoesBy, GoesOnBy, LeasedWasBusy, HasEmptied, HasFailed, log_of};
 
     /// The evacuation of a managed block, before its first action.
     pub fn new(g: Geometry, b: BlockNo) -> Evacuation
@@ -195,7 +195,7 @@ impl Evacuation {
     pub fn next(&mut self, seen: EvacSeen) -> EvacAction
         ensures state { self.new ≡ spec.evacuation_after self.old seen }
         ensures action { result ≡ spec.action_of self.new }
-        ensures goes_on { (t : tale.Tale) → GoesBy self.old t → spec.is_answer self.old seen ≡ true → WasOutBefore t seen → GoesOn self.old self.new t seen }
+        ensures goes_on { (t : tale.Tale) → GoesBy self.old t → spec.is_answer self.old seen ≡ true → LeasedWasBusy t seen → GoesOnBy self.old self.new t seen }
         ensures emptied { (t : tale.Tale) → result ≡ EvacAction.Emptied → GoesBy self.new t → HasEmptied self.new.block t (log_of self.new t) }
         ensures failed { (t : tale.Tale) (cause : EvacCause) → result ≡ EvacAction.Failed cause → GoesBy self.new t → HasFailed self.new.sizes self.new.block t (log_of self.new t) cause }
         ensures few { (t : tale.Tale) → GoesBy self.new t → length (log_of self.new t) ≤ 15 * self.new.sizes.block + 7 }

@@ -1,38 +1,33 @@
-//! The words found for the frames of a block, five for each frame, one a round.
+//! The words found for the frames of a block.
 
-ghost use Rattle.std.specs.Prelude.{◌≡◌, ◌<◌, length, slice_set};
+ghost use Rattle.std.specs.Prelude.{◌≡◌, ◌<◌, length};
+ghost use Rattle.std.specs.List.{AllByRecursion};
 ghost use Rattle.evacuate.specs.Evacuating as spec;
 
-/// Places for words: five for each of the at most 512 frames of a block, 20 KiB.
-pub const WORD_PLACES: usize = 2560;
+/// The most frames that a block has.
+pub const FRAMES: usize = 512;
 
-/// Places without a word.
-pub fn no_words() -> [u64; WORD_PLACES]
-    ensures { length result ≡ 2560 }
+/// No word for any frame: 20 KiB.
+pub fn no_words() -> [[u64; 5]; FRAMES]
+    ensures frames { length result ≡ 512 }
+    ensures rounds { AllByRecursion (λ row. length row ≡ 5) result }
 {
-    [0; WORD_PLACES]
+    [[0; 5]; FRAMES]
 }
 
-/// Keeps the word found for a frame of the block in a round.
-pub fn keep_word(words: &mut [u64; WORD_PLACES], place: u32, round: u32, word: u64)
+/// Keeps the word found in a round for the frame at that place of the block.
+pub fn keep_word(words: &mut [[u64; 5]; FRAMES], place: u32, round: u32, word: u64)
     requires place { place < 512 }
     requires round { round < 5 }
-    ensures { words.new ≡ slice_set words.old (spec.word_place place round) word }
+    ensures { words.new ≡ spec.with_word words.old place round word }
 {
-    words[place as usize * 5 + round as usize] = word;
+    words[place as usize][round as usize] = word;
 }
 
-/// The words found for a frame of the block in the five rounds.
-pub fn five_words(words: &[u64; WORD_PLACES], place: u32) -> [u64; 5]
+/// The words found in the five rounds for the frame at that place of the block.
+pub fn five_words(words: &[[u64; 5]; FRAMES], place: u32) -> [u64; 5]
     requires { place < 512 }
-    ensures { result ≡ spec.five_words words.now place }
+    ensures { result ≡ spec.words_of words.now place }
 {
-    let first = place as usize * 5;
-    [
-        words[first],
-        words[first + 1],
-        words[first + 2],
-        words[first + 3],
-        words[first + 4],
-    ]
+    words[place as usize]
 }

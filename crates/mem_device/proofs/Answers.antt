@@ -89,6 +89,7 @@ answer_none s d faults told e =
     record {
       refused = false;
       answer = rw e refl;
+      asked = λ x. cc;
       cause = λ x. cc;
       exact = λ x. let y : false ≡ true = rw e at x in cc;
     }

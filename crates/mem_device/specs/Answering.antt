@@ -1,5 +1,5 @@
 -- How a device answers a request: the response, the backing, and which blocks change hands.
-use Rattle.std.specs.Prelude.{◌≡◌, ◌↔◌, ℕ, Bool, true, false, ◌==◌, ◌&&◌, not, if◌then◌else◌, List, [], length, Option, None, Some}
+use Rattle.std.specs.Prelude.{◌≡◌, ◌↔◌, ℕ, Bool, true, false, ◌==◌, ◌&&◌, ◌⊎◌, not, if◌then◌else◌, List, [], length, Option, None, Some}
 use Rattle.std.specs.List.{range_with_len}
 use Rattle.std.specs.Option.{option_map}
 use Rattle.evac_model.specs.declared.device.Request.{Request}
@@ -27,13 +27,18 @@ asks_backing s d (Some (Unplug addr count)) = is_good_range s addr count && (are
 asks_backing s d (Some UnplugAll) = not (length d.plugged == 0) && not d.migrating
 asks_backing s d (Some (State addr count)) = false
 
--- The response is the device's answer, where `refused` says that the backing failed: only where its count of faults
--- rose, and where its calls are told and it is asked, exactly where the call is a listed one.
+-- The response is the device's answer, where `refused` says that the backing failed: only where it was asked and its
+-- count of faults rose, and where its calls are told, exactly where the call is a listed one.
 pub record IsAnswer (s : Sizes) (d : DeviceState) (request : Option Request) (before after : ℕ) (told : Option Calls) (response : Response) : Type 0 where
   pub refused : Bool
   pub answer : response ≡ device_answer s d refused request
+  pub asked : refused ≡ true → asks_backing s d request ≡ true
   pub cause : refused ≡ true → Rose before after
   pub exact : asks_backing s d request ≡ true → WhereTold told (λ calls. (refused ≡ true) ↔ IsListed calls)
+
+-- what makes a device busy: a migration, or that the backing was asked and its count of faults rose
+abbrev pub IsBusyCause : Sizes → DeviceState → Option Request → (before after : ℕ) → Type 0
+IsBusyCause s d request before after = (d.migrating ≡ true) ⊎ ((asks_backing s d request ≡ true) × Rose before after)
 
 -- the backing was asked once, or is as it was
 abbrev pub IsAsked : {B : Type 0} → (told : B → Option Calls) → Bool → (before after : B) → Type 0

@@ -1,8 +1,9 @@
 -- What is seen of a device.
-use Rattle.std.specs.Prelude.{◌≢◌, ℕ, ◌*◌, ◌%◌, ◌<◌, ◌⊎◌, List, []}
+use Rattle.std.specs.Prelude.{◌≢◌, ℕ, ◌%◌, ◌<◌, ◌⊎◌, List, []}
 use Rattle.evac_model.specs.declared.device_journal.DeviceAct.TheVariants.{Requested}
 use Rattle.evac_model.specs.declared.device_journal.DeviceAction.{DeviceAction}
-use Rattle.evac_model.specs.Geometry.{Sizes, block_bytes}
+use Rattle.evac_model.specs.Geometry.{Sizes}
+use Rattle.evac_model.specs.DeviceBlocks.{device_block_bytes, region_bytes}
 use Rattle.evac_model.specs.DeviceAnswer.{DeviceState, device_after, device_at_start}
 
 -- the machine, the actions so far, what backs the blocks, and what holds the unplugged ones
@@ -22,4 +23,4 @@ requested_action size = record { act = Requested size; notices = [] }
 
 -- no multiple of the block size, or above the region's size
 abbrev pub IsBadSize : Sizes → ℕ → Type 0
-IsBadSize s size = (size % block_bytes s ≢ 0) ⊎ (s.managed * block_bytes s < size)
+IsBadSize s size = (size % device_block_bytes s ≢ 0) ⊎ (region_bytes s < size)

@@ -5,6 +5,7 @@ use Rattle.evac_model.specs.declared.device.Request.TheVariants as requests
 use Rattle.evac_model.specs.declared.device.Response.{Response}
 use Rattle.evac_model.specs.declared.device.Response.TheVariants.{Ack}
 use Rattle.evac_model.specs.Geometry.{Sizes, IsWithinLimits}
+use Rattle.evac_model.specs.DeviceBlocks.{device_blocks}
 use Rattle.evac_model.specs.Numbers.{IsRisingBelow}
 use Rattle.evac_model.specs.DeviceAnswer.{DeviceState, unplug_answer}
 use Rattle.evac_model.specs.DeviceAnswer.{unplugged_blocks}
@@ -19,9 +20,9 @@ module _ {B H : Type 0} where
   -- the hand has exactly the unplugged blocks, and room for each block
   pub record IsManaged (blocks : H → List ℕ) (room : H → ℕ) (m : Memory B H) : Type 0 where
     pub within : IsWithinLimits m.map.sizes
-    pub rising : IsRisingBelow m.map.sizes.managed m.map.plugged
+    pub rising : IsRisingBelow (device_blocks m.map.sizes) m.map.plugged
     pub unplugged : blocks m.hand ≡ unplugged_blocks m.map.sizes m.map.plugged
-    pub roomy : m.map.sizes.managed ≤ room m.hand
+    pub roomy : device_blocks m.map.sizes ≤ room m.hand
 
 -- the response to a request that is done, or the one that refuses it
 abbrev pub cause_answer : Result BlockNo Response → Response

@@ -27,18 +27,19 @@ impl Model for BlockHand {
 impl BlockHand {
     ghost use Rattle.std.specs.Prelude.{◌≡◌, ◌+◌, ◌≤◌, IfOk};
     ghost use Rattle.std.specs.List.{range_with_len};
+    ghost use Rattle.evac_model.specs.DeviceBlocks.{device_blocks};
 
     /// A hand with room for each block of the machine, and with `n` blocks from `first` on, one bit
     /// for each block. It fails where there is no memory for the bits.
     pub fn new(alloc: Global, g: Geometry, first: BlockNo, n: u32) -> Result<BlockHand, OutOfMemory>
-        requires { first.0 + n ≤ g.managed }
+        requires { first.0 + n ≤ device_blocks g }
         ensures blocks { IfOk result (λ h. h.blocks ≡ range_with_len first.0 n) }
-        ensures room { IfOk result (λ h. h.room ≡ g.managed) }
+        ensures room { IfOk result (λ h. h.room ≡ device_blocks g) }
     {
         let mut map = BlockMap::new(alloc, g)?;
         // its blocks are rising
-        let managed = map.geometry().managed();
-        map.clear(BlockNo(0), managed);
+        let blocks = map.geometry().device_blocks();
+        map.clear(BlockNo(0), blocks);
         map.set(first, n);
         Ok(BlockHand {
             kind: HandKind::Set(map),

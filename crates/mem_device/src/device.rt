@@ -3,7 +3,6 @@
 ghost use Rattle.std.specs.Prelude.{◌≡◌};
 
 use crate::memory::Memory;
-use crate::range::region_size;
 use crate::{Answer, Held, NoMemory, SizeFault};
 use block_map::BlockMap;
 use dma_listeners::{Backing, Listener, Registry};
@@ -24,6 +23,13 @@ pub struct Device<L, B, H: Held> {
     registry: Registry<L>,
     journal: Vec<DeviceAction>,
     alloc: Global,
+}
+
+/// All of a device but its journal, to be given back as one.
+#[derive(Drop)]
+struct Rest<L, B, H: Held> {
+    memory: Memory<B, H>,
+    registry: Registry<L>,
 }
 
 impl<L, B, H: Held> Model for Device<L, B, H> {
@@ -47,7 +53,8 @@ impl<L: Listener, B: Backing, H: Held> Device<L, B, H> {
 
     /// Answers a request of at most 64 bytes (Virtio 1.2, 5.15.6). For an UNPLUG of a good range that
     /// is all plugged and for an UNPLUG_ALL, `held` has exactly the plugged blocks named, and else no
-    /// block. The backing is asked once where the answer depends on it. Room for the journal is taken
+    /// block. The backing is asked once where the answer depends on it, and only where it fails then, or a
+    /// migration is active, the answer is BUSY. Room for the journal is taken
     /// first; where there is none, the device is as it was.
     pub fn answer(&mut self, bytes: &[u8], held: H) -> Result<Answer<H>, NoMemory<H>>
         requires short { length bytes.now ≤ 64 }
@@ -84,7 +91,7 @@ impl<L: Listener, B: Backing, H: Held> Device<L, B, H> {
     }
 
     /// Sets the size that the device asks the driver to have plugged, in bytes. `BadSize` comes
-    /// exactly where it is no multiple of the block size or is above the region's size.
+    /// exactly where it is no multiple of the device block's size or is above the region's size.
     pub fn set_requested(&mut self, size: u64) -> Result<(), SizeFault>
         ensures journal { OnOk result (self.new.journal ≡ self.old.journal ++ requested_action size ∷ []) }
         ensures bad { (result ≡ Err SizeFault.BadSize) ↔ IsBadSize self.old.sizes size }
@@ -94,7 +101,7 @@ impl<L: Listener, B: Backing, H: Held> Device<L, B, H> {
         ensures hand { self.new.hand ≡ self.old.hand }
     {
         let g = self.memory.map.geometry();
-        if size % g.block_bytes() != 0 || size > region_size(&g) {
+        if size % g.device_block_bytes() != 0 || size > g.region_bytes() {
             return Err(SizeFault::BadSize);
         }
         if self.journal.reserve(1).is_err() {
@@ -114,13 +121,14 @@ impl<L: Listener, B: Backing, H: Held> Device<L, B, H> {
         ensures { result ≡ config_of self.now.sizes (device_state self.now) }
     {
         let g = self.memory.map.geometry();
-        let _managed = g.managed();
+        // the region has a block
+        let _blocks = g.device_blocks();
         Config {
-            block_size: g.block_bytes(),
+            block_size: g.device_block_bytes(),
             node_id: 0,
-            addr: g.address(BlockNo(0)),
-            region_size: region_size(&g),
-            usable_region_size: region_size(&g),
+            addr: g.device_address(BlockNo(0)),
+            region_size: g.region_bytes(),
+            usable_region_size: g.region_bytes(),
             plugged_size: self.memory.map.plugged_size(),
             requested_size: self.memory.requested,
         }
@@ -152,6 +160,7 @@ impl<L: Listener, B: Backing, H: Held> Device<L, B, H> {
 impl<L: Listener + Drop, B: Backing + Drop, H: Held + Drop> Device<L, B, H> {
     ghost use Rattle.std.specs.Prelude.{◌≡◌, ◌≤◌, ◌-◌, [], IfOk};
     ghost use Rattle.std.specs.List.{range_with_len};
+    ghost use Rattle.evac_model.specs.DeviceBlocks.{device_blocks, plugged_at_start};
     ghost use Rattle.evac_model.specs.DeviceAnswer.{unplugged_blocks};
     ghost use Rattle.mem_device.specs.DeviceView.{device_state};
 
@@ -164,8 +173,8 @@ impl<L: Listener + Drop, B: Backing + Drop, H: Held + Drop> Device<L, B, H> {
         backing: B,
         unplugged: H,
     ) -> Result<Device<L, B, H>, OutOfMemory>
-        requires roomy { g.managed ≤ H.room unplugged }
-        requires unplugged { H.blocks unplugged ≡ range_with_len g.plugged (g.managed - g.plugged) }
+        requires roomy { device_blocks g ≤ H.room unplugged }
+        requires unplugged { H.blocks unplugged ≡ range_with_len (plugged_at_start g) (device_blocks g - plugged_at_start g) }
         ensures { IfOk result (λ d. d ≡ record { sizes = g; journal = []; backing = backing; hand = unplugged }) }
     {
         let map = BlockMap::new(alloc, g)?;
@@ -184,6 +193,20 @@ impl<L: Listener + Drop, B: Backing + Drop, H: Held + Drop> Device<L, B, H> {
             journal: Vec::new(alloc),
             alloc,
         })
+    }
+
+    /// The actions so far, in order. The memory of the rest is given back, and none is taken.
+    pub fn into_journal(self) -> Vec<DeviceAction>
+        ensures { result.items ≡ self.journal }
+    {
+        let Device {
+            memory,
+            registry,
+            journal,
+            alloc: _,
+        } = self;
+        let _rest = Rest { memory, registry };
+        journal
     }
 
     /// Closes the device, and gives what holds its unplugged blocks.

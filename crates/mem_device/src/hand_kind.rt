@@ -1,6 +1,7 @@
 //! How a hand keeps its blocks.
 
 ghost use Rattle.std.specs.Prelude.{◌≡◌, ℕ, ◌<◌, true};
+ghost use Rattle.evac_model.specs.DeviceBlocks.{device_blocks};
 ghost use Rattle.evac_model.specs.Numbers.{is_in, united};
 ghost use Rattle.mem_device.specs.HandInside.{hand_state};
 
@@ -23,13 +24,13 @@ pub(crate) enum HandKind {
 
 // Puts all blocks of a map into another.
 fn add_all(map: &mut BlockMap, more: &BlockMap)
-    requires { (b : ℕ) → is_in b more.now.plugged ≡ true → b < map.old.sizes.managed }
+    requires { (b : ℕ) → is_in b more.now.plugged ≡ true → b < device_blocks map.old.sizes }
     ensures sizes { map.new.sizes ≡ map.old.sizes }
     ensures plugged { map.new.plugged ≡ united map.old.plugged more.now.plugged }
 {
     // the blocks of both are rising
     let _ = map.geometry();
-    let end = more.geometry().managed();
+    let end = more.geometry().device_blocks();
     for b in 0..end {
         if more.plugged(BlockNo(b)) {
             map.set(BlockNo(b), 1);
@@ -39,7 +40,7 @@ fn add_all(map: &mut BlockMap, more: &BlockMap)
 
 /// Puts all blocks of a hand into a map.
 pub(crate) fn add_kind(map: &mut BlockMap, kind: HandKind)
-    requires { (b : ℕ) → is_in b (hand_state kind).blocks ≡ true → b < map.old.sizes.managed }
+    requires { (b : ℕ) → is_in b (hand_state kind).blocks ≡ true → b < device_blocks map.old.sizes }
     ensures sizes { map.new.sizes ≡ map.old.sizes }
     ensures plugged { map.new.plugged ≡ united map.old.plugged (hand_state kind).blocks }
 {

@@ -11,6 +11,7 @@ mod held;
 mod laws;
 mod memory;
 mod range;
+mod requested;
 
 pub use answer::{Answer, NoMemory, SizeFault};
 pub use block_hand::BlockHand;
@@ -19,5 +20,6 @@ pub use device::Device;
 pub use dma_listeners::{Backing, Listener, Slate, SureSlate};
 pub use evac_model::{BlockNo, Config, DeviceAct, DeviceAction, Geometry, OutOfMemory, Response};
 pub use held::Held;
-pub use laws::sure_backing_is_never_busy;
+pub use laws::{busy_has_a_cause, sure_backing_is_never_busy};
 pub use range::range_at;
+pub use requested::{plugged_by, requested_blocks};

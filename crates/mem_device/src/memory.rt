@@ -2,6 +2,7 @@
 
 ghost use Rattle.std.specs.Prelude.{◌≡◌, ℕ, ◌+◌, ◌≤◌, ◌<◌, [], true, false, Some, IfOk, IfErr};
 ghost use Rattle.evac_model.specs.declared.device.Request.TheVariants as requests;
+ghost use Rattle.evac_model.specs.DeviceBlocks.{device_blocks};
 ghost use Rattle.evac_model.specs.DeviceAnswer.{block_at, are_plugged, are_unplugged, plug_answer, state_answer, after_answer};
 ghost use Rattle.mem_device.specs.Answering.{IsAnswer, IsAsked, IsBack, IsRefusal, asks_backing, named_blocks};
 ghost use Rattle.mem_device.specs.Managed.{IsManaged, state_in, cause_answer, IsUnplugCause};
@@ -28,7 +29,7 @@ fn plug_cause<B, H>(m: &Memory<B, H>, addr: u64, count: u16) -> Result<BlockNo, 
     ensures answer { plug_answer m.now.map.sizes (state_in m.now) false addr count ≡ cause_answer result }
     ensures refusal { IfErr result IsRefusal }
     ensures first { IfOk result (λ b. b.0 ≡ block_at m.now.map.sizes addr) }
-    ensures inside { IfOk result (λ b. b.0 + count ≤ m.now.map.sizes.managed) }
+    ensures inside { IfOk result (λ b. b.0 + count ≤ device_blocks m.now.map.sizes) }
     ensures unplugged { IfOk result (λ b. are_unplugged m.now.map.plugged b.0 count ≡ true) }
 {
     let g = m.map.geometry();
@@ -52,7 +53,7 @@ fn unplug_cause<B, H>(m: &Memory<B, H>, addr: u64, count: u16) -> Result<BlockNo
     ensures cause { IsUnplugCause m.now.map.sizes (state_in m.now) addr count result }
     ensures refusal { IfErr result IsRefusal }
     ensures first { IfOk result (λ b. b.0 ≡ block_at m.now.map.sizes addr) }
-    ensures inside { IfOk result (λ b. b.0 + count ≤ m.now.map.sizes.managed) }
+    ensures inside { IfOk result (λ b. b.0 + count ≤ device_blocks m.now.map.sizes) }
     ensures plugged { IfOk result (λ b. are_plugged m.now.map.plugged b.0 count ≡ true) }
 {
     let g = m.map.geometry();
@@ -172,7 +173,7 @@ impl<B: Backing, H: Held> Memory<B, H> {
         ensures counts { B.faults self.old.backing ≤ B.faults self.new.backing }
         ensures back { IsBack H.blocks self.old.map.sizes (Some requests.UnplugAll) result.response held result.back }
     {
-        let managed = self.map.geometry().managed();
+        let blocks = self.map.geometry().device_blocks();
         if self.map.plugged_size() == 0 {
             return Answer {
                 response: Response::Ack { state: 0 },
@@ -185,7 +186,7 @@ impl<B: Backing, H: Held> Memory<B, H> {
                 back: held,
             };
         }
-        if self.backing.discard(BlockNo(0), managed).is_err() {
+        if self.backing.discard(BlockNo(0), blocks).is_err() {
             return Answer {
                 response: Response::Busy,
                 back: held,
@@ -193,7 +194,7 @@ impl<B: Backing, H: Held> Memory<B, H> {
         }
         self.hand.merge(held);
         let back = self.hand.part(BlockNo(0), 0);
-        self.map.clear(BlockNo(0), managed);
+        self.map.clear(BlockNo(0), blocks);
         Answer {
             response: Response::Ack { state: 0 },
             back,

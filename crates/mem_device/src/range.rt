@@ -1,7 +1,7 @@
-//! Ranges of blocks that a request names.
+//! Ranges of device blocks.
 
 ghost use Rattle.std.specs.Prelude.{◌≡◌, ◌+◌, ◌*◌, ◌<◌, ◌≤◌, length, is_some, IfSome, OnSome};
-ghost use Rattle.evac_model.specs.Geometry.{block_bytes};
+ghost use Rattle.evac_model.specs.DeviceBlocks.{device_blocks, device_block_bytes};
 ghost use Rattle.evac_model.specs.DeviceAnswer.{block_at, is_good_range, are_plugged, are_unplugged};
 
 use block_map::BlockMap;
@@ -12,12 +12,12 @@ use evac_model::{BlockNo, Geometry, STATE_PLUGGED, STATE_UNPLUGGED};
 pub fn range_at(g: &Geometry, addr: u64, count: u16) -> Option<BlockNo>
     ensures good { is_some result ≡ is_good_range g.now addr count }
     ensures first { IfSome result (λ b. b.0 ≡ block_at g.now addr) }
-    ensures inside { IfSome result (λ b. b.0 + count ≤ g.now.managed) }
+    ensures inside { IfSome result (λ b. b.0 + count ≤ device_blocks g.now) }
     ensures some { OnSome result (0 < count) }
 {
-    let managed = g.managed() as u64;
-    let start = g.address(BlockNo(0));
-    let size = g.block_bytes();
+    let blocks = g.device_blocks() as u64;
+    let start = g.device_address(BlockNo(0));
+    let size = g.device_block_bytes();
     if addr < start {
         return None;
     }
@@ -26,7 +26,7 @@ pub fn range_at(g: &Geometry, addr: u64, count: u16) -> Option<BlockNo>
         return None;
     }
     let first = offset / size;
-    if count == 0 || first > managed || count as u64 > managed - first {
+    if count == 0 || first > blocks || count as u64 > blocks - first {
         return None;
     }
     Some(BlockNo(first as u32))
@@ -50,15 +50,8 @@ pub(crate) fn is_unplugged(map: &BlockMap, first: BlockNo, n: u32) -> bool
 
 /// The bytes of the plugged blocks and of `count` more.
 pub(crate) fn size_with(map: &BlockMap, count: u16) -> u64
-    ensures { result ≡ (length map.now.plugged + count) * block_bytes map.now.sizes }
+    ensures { result ≡ (length map.now.plugged + count) * device_block_bytes map.now.sizes }
 {
     let g = map.geometry();
-    map.plugged_size() + count as u64 * g.block_bytes()
-}
-
-/// The bytes of the region.
-pub(crate) fn region_size(g: &Geometry) -> u64
-    ensures { result ≡ g.now.managed * block_bytes g.now }
-{
-    g.managed() as u64 * g.block_bytes()
+    map.plugged_size() + count as u64 * g.device_block_bytes()
 }

@@ -1,5 +1,5 @@
 -- The release of a call: what its entry made, and which lease was refused.
-use Rattle.std.proofs.Common.{◌≡◌, ◌≢◌, ℕ, ◌+◌, ◌<◌, ◌≤◌, ◌==◌, ◌&&◌, Bool, true, false, if◌then◌else◌, List, [], ◌∷◌, ◌++◌, length, get_or, refl, sym, ap, ◌∙◌, subst, inl, inr, arith, Option, Some, None}
+use Rattle.std.proofs.Common.{◌≡◌, ◌≢◌, ℕ, ◌+◌, ◌<◌, ◌==◌, ◌&&◌, Bool, true, false, if◌then◌else◌, List, [], ◌∷◌, ◌++◌, refl, sym, ap, ◌∙◌, subst, inl, inr, arith, Option, Some, None}
 use Rattle.std.specs.List.{AllByRecursion}
 use Rattle.evac_model.specs.declared.names.FrameNo.{FrameNo}
 use Rattle.evac_model.specs.declared.names.Kind.{Kind}
@@ -70,7 +70,7 @@ pub waits : (who : ℕ) (left : List (PageNo × Call)) → made_under_way who le
 waits who ((page, Alloc kind) ∷ cs) = refl
 waits who left = refl
 
-not_refused : (s : Scenario) (journal : List SpaceAction) (who : ℕ) (es : List Entry) (left : List (PageNo × Call)) → IsRefusedNow s journal who es left NotAsked
+pub not_refused : (s : Scenario) (journal : List SpaceAction) (who : ℕ) (es : List Entry) (left : List (PageNo × Call)) → IsRefusedNow s journal who es left NotAsked
 not_refused s journal who es ((page, Alloc kind) ∷ cs) = tt
 not_refused s journal who es left = tt
 

@@ -1,11 +1,11 @@
 -- A lease, a refused lease and a return: what an owner's calls made then.
-use Rattle.std.proofs.Common.{◌≡◌, ℕ, ◌+◌, ◌<◌, false, List, [], ◌∷◌, ◌++◌, length, get_or, append-nil, refl, sym, ap, ◌∙◌, subst, arith, Option, Some, None}
+use Rattle.std.proofs.Common.{◌≡◌, ℕ, ◌+◌, List, [], ◌∷◌, ◌++◌, length, append-nil, refl, sym, ap, ◌∙◌, subst, arith, Some, None}
 use Rattle.std.proofs.Math.Seq.{take-length, drop-length}
 use Rattle.evac_model.specs.declared.names.FrameNo.{FrameNo}
 use Rattle.evac_model.specs.declared.names.Kind.{Kind}
 use Rattle.evac_model.specs.declared.names.PageNo.{PageNo}
 use Rattle.evac_model.specs.declared.call.Call.{Call}
-use Rattle.evac_model.specs.declared.call.Call.TheVariants.{Alloc, Free, Read, Write, Add, Pin, Unpin}
+use Rattle.evac_model.specs.declared.call.Call.TheVariants.{Alloc}
 use Rattle.evac_model.specs.declared.entry.Entry.{Entry}
 use Rattle.evac_model.specs.declared.scenario.Scenario.{Scenario}
 use Rattle.evac_model.specs.declared.space.SpaceAction.{SpaceAction}
@@ -16,7 +16,7 @@ use Rattle.evac_model.specs.SpaceJournal.{IsLeasable}
 use Rattle.core_actors.specs.declared.action.Action.TheVariants as actions
 use Rattle.core_actors.specs.declared.action.Heard.TheVariants as heard
 use Rattle.core_actors.specs.declared.action.LeaseSeen.{LeaseSeen}
-use Rattle.core_actors.specs.declared.action.LeaseSeen.TheVariants.{NotAsked, Got, Refused}
+use Rattle.core_actors.specs.declared.action.LeaseSeen.TheVariants.{NotAsked, Refused}
 use Rattle.core_actors.specs.declared.action.SpaceCall.TheVariants.{Lease, Return}
 use Rattle.core_actors.specs.declared.place.Place.{Place}
 use Rattle.core_actors.specs.declared.place.Place.TheVariants.{Between, InCall}

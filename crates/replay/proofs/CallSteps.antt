@@ -1,6 +1,5 @@
 -- A step on a word and a step on the mapping: what an owner's calls made then.
-use Rattle.std.proofs.Common.{◌≡◌, ℕ, Bool, false, if◌then◌else◌, List, [], ◌∷◌, length, get_or, ◌+◌, refl, sym, ap, ◌∙◌, subst, Option, Some, None}
-use Rattle.evac_model.specs.declared.names.FrameNo.{FrameNo}
+use Rattle.std.proofs.Common.{◌≡◌, ℕ, Bool, false, if◌then◌else◌, List, [], ◌∷◌, length, get_or, ◌+◌, refl, sym, ap, ◌∙◌, subst, Some, None}
 use Rattle.evac_model.specs.declared.names.PageNo.{PageNo}
 use Rattle.evac_model.specs.declared.call.Call.{Call}
 use Rattle.evac_model.specs.declared.call.Call.TheVariants.{Alloc, Free, Read, Write, Add, Pin, Unpin}
@@ -26,7 +25,7 @@ use Rattle.core_actors.specs.declared.place.Place.TheVariants.{Between, InCall}
 use Rattle.core_actors.specs.declared.place.CallPlace.{CallPlace}
 use Rattle.core_actors.specs.declared.place.CallPlace.TheVariants as places
 use Rattle.core_actors.specs.CallSteps.{first_cell, values_of, reply_of}
-use Rattle.core_actors.specs.Places.{first_action, action_at, frame_in, ends_call, frame_owed}
+use Rattle.core_actors.specs.Places.{first_action, action_at, frame_in, ends_call}
 use Rattle.core_actors.specs.Owners.{OwnerState, action_in, next_action, owner_after}
 use Rattle.core_actors.specs.Actions.{heard_by}
 use Rattle.core_actors.specs.Counts.{ComesTo, IsPlaced, IsUnderWay}

@@ -1,15 +1,11 @@
 -- Each owner's leases and returns are those of its calls, after each turn of each actor.
-use Rattle.std.proofs.Common.{◌≡◌, ℕ, zero, suc, ◌-◌, ◌<◌, Bool, true, false, if◌then◌else◌, List, [], ◌∷◌, ◌++◌, length, set, refl, sym, ap, subst, arith, Option, Some, None}
+use Rattle.std.proofs.Common.{◌≡◌, ℕ, suc, ◌-◌, ◌<◌, false, List, [], ◌∷◌, ◌++◌, length, set, refl, arith, Option, Some, None}
 use Rattle.std.specs.List.{slice_get}
-use Rattle.std.proofs.lemmas.List.{get_or_past}
 use Rattle.std.proofs.lemmas.Option.{slice_get-get_or}
-use mathlib.Core.Logic.{dite}
-use native.Mathlib.Decide.{dec_lt}
 use Rattle.evac_model.specs.declared.names.FrameNo.{FrameNo}
 use Rattle.evac_model.specs.declared.names.Kind.{Kind}
 use Rattle.evac_model.specs.declared.names.PageNo.{PageNo}
 use Rattle.evac_model.specs.declared.scenario.Actor.{Actor}
-use Rattle.evac_model.specs.declared.scenario.Actor.TheVariants.{Owner, Host, Scanner}
 use Rattle.evac_model.specs.declared.scenario.Scenario.{Scenario}
 use Rattle.evac_model.specs.declared.space.SpaceAction.{SpaceAction}
 use Rattle.evac_model.specs.declared.space.SpaceAction.TheVariants as space
@@ -30,25 +26,24 @@ use Rattle.core_state.specs.Steps.{view_after}
 use Rattle.core_state.specs.MoveSteps.{view_after_move}
 use Rattle.core_actors.specs.declared.action.Action.{Action}
 use Rattle.core_actors.specs.declared.action.Action.TheVariants as actions
-use Rattle.core_actors.specs.declared.action.Heard.{Heard}
 use Rattle.core_actors.specs.declared.action.Heard.TheVariants as heard
 use Rattle.core_actors.specs.declared.action.SpaceCall.TheVariants.{Lease, Return, Online}
 use Rattle.core_actors.specs.Actions.{heard_by}
 use Rattle.core_actors.specs.Fits.{Fits}
-use Rattle.core_actors.specs.Hosts.{host_ended, host_action}
 use Rattle.core_actors.specs.Owners.{OwnerState, owner_at_start, owner_ended, next_action, owner_after}
 use Rattle.space.specs.JournaledSpace.{JournaledSpace}
 use Rattle.space.proofs.Leases.{refused_none}
 use Rattle.replay.specs.CallsMade.{AreOwnersCallsMade, AreCallsMade}
 use Rattle.replay.specs.FramesOut.{space_now}
 use Rattle.replay.specs.Keeping.{HaveNumbers, IsKept}
-use Rattle.replay.specs.Machine.{Machine, free_seat, unplugged_seat, handed, owner_of, scene_of, with_scene, after_lease, after_action, host_scene_of, with_host_scene, after_host_action, after_turn}
+use Rattle.replay.specs.Machine.{Machine, free_seat, handed, owner_of, with_scene, after_lease, after_action, after_turn}
 use Rattle.replay.specs.Runs.{opening, setting}
 use Rattle.replay.proofs.CallLeases.{calls_after_lease, calls_after_refusal, calls_after_return}
 use Rattle.replay.proofs.CallPlaces.{handed_same, leaves_same, leaves_longer, entries_set, entries_same, turn_made}
 use Rattle.replay.proofs.CallSteps.{calls_stepped, calls_moved}
 use Rattle.replay.proofs.HostCalls.{host_calls_made}
 use Rattle.replay.proofs.SpaceNow.{space_is}
+use Rattle.replay.proofs.TurnCases.{turn_cases}
 
 module _ (s : Scenario) (m : Machine) (r : IsRunnable s) (p : IsKept s m) (i : ℕ) (a : OwnerState) (at : slice_get m.owners i ≡ Some a) (has : Has m.snapshot.views (suc i) (view_of m.snapshot.views (suc i))) (going : owner_ended a ≡ false) where
   abbrev v : View
@@ -148,25 +143,8 @@ module _ (s : Scenario) (m : Machine) (r : IsRunnable s) (p : IsKept s m) (i : �
 
 -- ---- a turn
 
-going_turn : (s : Scenario) (m : Machine) (i : ℕ) → IsRunnable s → IsKept s m → owner_ended (owner_of m.owners (suc i)) ≡ false
-    → AreCallsMade s (with_scene m (suc i) (after_action (setting s) (suc i) (free_seat (length m.owners)) (scene_of m (suc i)) (next_action (owner_of m.owners (suc i)))))
-going_turn s m i r p going = dite (dec_lt i (length m.owners))
-    (λ lt. let a = p.seats.owners in let b = p.seats.seats in
-    by_action s m r p i (owner_of m.owners (suc i)) (slice_get-get_or m.owners i (owner_at_start 0 0 []) lt) (slice_get-get_or m.snapshot.views (suc i) spent (omega arith)) going (next_action (owner_of m.owners (suc i))) refl)
-    (λ past. let none : owner_ended (owner_of m.owners (suc i)) ≡ true = ap (λ (a : OwnerState). owner_ended a) (get_or_past m.owners i (owner_at_start 0 0 []) (omega arith)) in absurd (cc))
-
-owner_turn : (s : Scenario) (m : Machine) (i : ℕ) → IsRunnable s → IsKept s m → (b : Bool) → owner_ended (owner_of m.owners (suc i)) ≡ b
-    → AreCallsMade s (if b then m else with_scene m (suc i) (after_action (setting s) (suc i) (free_seat (length m.owners)) (scene_of m (suc i)) (next_action (owner_of m.owners (suc i)))))
-owner_turn s m i r p true ended = p.calls
-owner_turn s m i r p false going = going_turn s m i r p going
-
-host_turn : (s : Scenario) (m : Machine) → IsRunnable s → IsKept s m → (b : Bool) → host_ended m.host ≡ b
-    → AreCallsMade s (if b then m else with_host_scene m (after_host_action s.geometry (free_seat (length m.owners)) (unplugged_seat (length m.owners)) (host_scene_of m) (host_action m.host)))
-host_turn s m r p true ended = p.calls
-host_turn s m r p false going = host_calls_made s m r p going
-
 pub calls_made : (s : Scenario) (m : Machine) (actor : Actor) → IsRunnable s → IsKept s m → AreCallsMade s (after_turn (setting s) m actor)
-calls_made s m (Owner zero) r p = p.calls
-calls_made s m (Owner (suc i)) r p = owner_turn s m i r p (owner_ended (owner_of m.owners (suc i))) refl
-calls_made s m Host r p = host_turn s m r p (host_ended m.host) refl
-calls_made s m Scanner r p = p.calls
+calls_made s m actor r p = turn_cases (setting s) m (AreCallsMade s) p.calls
+    (λ i below going. let a = p.seats.owners in let b = p.seats.seats in
+    by_action s m r p i (owner_of m.owners (suc i)) (slice_get-get_or m.owners i (owner_at_start 0 0 []) below) (slice_get-get_or m.snapshot.views (suc i) spent (omega arith)) going (next_action (owner_of m.owners (suc i))) refl)
+    (host_calls_made s m r p) actor

@@ -15,11 +15,12 @@ use Rattle.core_state.specs.Views.{Has}
 use Rattle.core_state.specs.Pages.{entry_with}
 use Rattle.core_state.specs.Histories.{IsHistoryOf}
 use Rattle.core_state.proofs.Entries.{entry_with-found}
+use Rattle.core_state.proofs.Found.{entry_with-has, entry_at-found, has_entry-uses}
 use Rattle.replay.specs.Machine.{Machine}
 use Rattle.replay.specs.Runs.{opening, AllEnded}
 use Rattle.replay.specs.Keeping.{IsKept}
 use Rattle.replay.proofs.EndedOwners.{IsEndedSeat, owners_seat, each_seat}
-use Rattle.replay.proofs.Members.{there, all_at, all_from, entry_with-member, member_uses, member_found, of_caller}
+use Rattle.replay.proofs.Members.{there, all_at, all_from, of_caller}
 
 -- an entry of the seat of an owner
 pub record IsOfOwner (s : Scenario) (m : Machine) (e : Entry) : Type 0 where
@@ -61,11 +62,11 @@ module _ (s : Scenario) (m : Machine) (k : IsKept s m) (ended : AllEnded m.owner
   -- an entry of a view stands in the history at its ticket
   stands : (i : ℕ) (v : View) (p : ℕ) (e : Entry) → Has views i v → slice_get v.entries p ≡ Some e → slice_get h e.ticket ≡ Some e
   stands i v p e at is =
-      let used = member_uses e.ticket views i v p e at is refl in
+      let used = has_entry-uses views e (record { seat = i; view = v; place = p; has = at; at = is }) in
       let low : e.ticket < next_ticket_of words = dite (dec_le (next_ticket_of words) e.ticket) (λ le. let none = k.seats.sound.tickets.none_from e.ticket le in absurd (omega arith)) (λ lt. omega arith) in
       let once = k.seats.sound.tickets.each_once e.ticket (omega arith) low in
       let x = there h e.ticket (let c = count in omega arith) in
-      let same : Some x.0 ≡ Some e = sym (found_at e.ticket x.0 x.1) ∙ member_found e.ticket views i v p e at is refl (omega arith) in
+      let same : Some x.0 ≡ Some e = sym (found_at e.ticket x.0 x.1) ∙ entry_at-found e.ticket views i v p e at is refl (omega arith) in
       x.1 ∙ same
 
   tickets : (j : ℕ) (e : Entry) → slice_get h j ≡ Some e → e.ticket ≡ 0 + j
@@ -74,11 +75,11 @@ module _ (s : Scenario) (m : Machine) (k : IsKept s m) (ended : AllEnded m.owner
   -- an entry of the history is one of an owner's
   pub of_owner : (j : ℕ) (e : Entry) → slice_get h j ≡ Some e → IsOfOwner s m e
   of_owner j e at =
-      let x = entry_with-member j views e (found_at j e at) in
+      let x = entry_with-has j views e (found_at j e at) in
       ⊎_elim
-      (λ own. of_seat s m own.place x.0 x.1 x.2 e own.is x.3 x.4 own.ended)
-      (λ idle. absurd (none-some e (sym (ap (λ (l : List Entry). slice_get l x.2) idle.entries) ∙ x.4)))
-      (each_seat s m k ended x.0 x.1 x.3)
+      (λ own. of_seat s m own.place x.seat x.view x.place e own.is x.has x.at own.ended)
+      (λ idle. absurd (none-some e (sym (ap (λ (l : List Entry). slice_get l x.place) idle.entries) ∙ x.at)))
+      (each_seat s m k ended x.seat x.view x.has)
 
   -- whoever has no script makes no call
   pub no_entries : (c : ℕ) → ((place : ℕ) → place < length s.owners → suc place ≢ c) → entries_of c h ≡ []

@@ -17,7 +17,7 @@ use Rattle.replay.specs.Runs.{setting, machine_at_start, HaveEnded, IsScheduledR
 use Rattle.replay.specs.Schedule.{actors, named_turns, drawn_turns, rounds, schedule, draw_count, round_bound, round_count}
 use Rattle.replay.proofs.ActionsLeft.{turns_keep}
 use Rattle.replay.proofs.Ends.{runs_end_if_kept}
-use Rattle.replay.proofs.Kept.{starts_are_kept, turns_are_kept}
+use Rattle.replay.proofs.MachineKept.{starts_are_kept, turns_are_kept}
 use Rattle.replay.proofs.Schedules.{after_both}
 use Rattle.replay.proofs.Starts.{length-owners_from}
 

@@ -2,13 +2,13 @@
 -- offline blocks are those that aren't plugged.
 use Rattle.std.proofs.Common.{◌≡◌, ℕ, zero, suc, ◌+◌, ◌<◌, ◌≤◌, Bool, true, false, ◌&&◌, ◌||◌, not, nat_lt, List, [], ◌∷◌, length, length-take, map, drop, is_some, refl, sym, ap, ◌∙◌, subst, arith, Option, Some, None, IsSome}
 use Rattle.std.specs.Option.{option_map}
+use Rattle.std.proofs.Math.Bool.{or-false}
 use Rattle.std.proofs.lemmas.Bool.{false≢true}
 use Rattle.std.proofs.lemmas.Bool.Decides.{nat_tests}
 use Rattle.std.proofs.lemmas.List.{get_or_past}
 use Rattle.std.proofs.lemmas.Option.{none-some, same_Some, slice_get-get_or}
 use mathlib.Core.Logic.{dite}
 use native.Mathlib.Decide.{ℕ_discrete, dec_lt}
-use Rattle.evac_model.specs.declared.names.FrameNo.{FrameNo}
 use Rattle.evac_model.specs.declared.names.Kind.{Kind}
 use Rattle.evac_model.specs.declared.names.PageNo.{PageNo}
 use Rattle.evac_model.specs.declared.call.Call.{Call}
@@ -193,10 +193,6 @@ numbers_back : (blocks : List ℕ) → map (λ b. b.0) (block_list blocks) ≡ b
 numbers_back [] = refl
 numbers_back (b ∷ blocks) = ap (λ (l : List ℕ). b ∷ l) (numbers_back blocks)
 
-or_none : (t : Bool) → (t || false) ≡ t
-or_none true = refl
-or_none false = refl
-
 -- the unplugged blocks are the managed ones that aren't plugged
 among_unplugged : (g : Sizes) (plugged : List ℕ) (block : ℕ) → is_in block (unplugged_blocks g plugged) ≡ (nat_lt block g.managed && not (is_in block plugged))
 among_unplugged g plugged block = dite (dec_lt block g.managed)
@@ -213,6 +209,6 @@ pub unplugged_at_end : (s : Scenario) (m : Machine) → IsKept s m → HaveEnded
 unplugged_at_end s m kept ended = λ block.
     kept.frames.offline block
     ∙ (ap (λ (blocks : List ℕ). is_in block (unplugged_now s m) || is_in block blocks) (blocks_at_end m.host kept.host.under_way ended.host)
-    ∙ (or_none (is_in block (unplugged_now s m))
+    ∙ (or-false (is_in block (unplugged_now s m))
     ∙ (among_unplugged s.geometry (device_now s m).plugged block
     ∙ sym (ap (λ (l : List ℕ). nat_lt block s.geometry.managed && not (is_in block l)) (numbers_back (device_now s m).plugged)))))

@@ -16,7 +16,7 @@ use Rattle.core_actors.specs.Owners.{OwnerState, owner_at_start}
 use Rattle.core_actors.specs.Counts.{actions_left}
 use Rattle.core_actors.proofs.Left.{few_at_start, none_left}
 use Rattle.replay.specs.Machine.{Machine, after_turn, after_turns}
-use Rattle.replay.specs.Schedule.{actors, named_turns, drawn_turns, rounds, schedule, round_bound, round_count}
+use Rattle.replay.specs.Schedule.{actors, named_turns, drawn_turns, rounds, schedule, round_count}
 use Rattle.replay.specs.Runs.{setting, owners_from, machine_at_start, AllEnded, HaveEnded}
 use Rattle.replay.specs.Keeping.{IsKept}
 use Rattle.replay.proofs.Turns.{after_turns-append}
@@ -49,23 +49,23 @@ ended_at s m kept none = record {
   host = (host_none_left m.host kept.host.under_way).0 (omega arith);
 }
 
--- the most actions that so many calls and so many commands have
-abbrev most_of_all : Sizes → (calls commands : ℕ) → ℕ
-most_of_all g calls commands = calls * (g.cells + 6) + commands * (g.managed + 1)
+-- the most actions that the calls and the commands of a scenario have
+abbrev most_of_all : Scenario → ℕ
+most_of_all s = call_count s.owners * (s.geometry.cells + 6) + length s.host * (s.geometry.managed + 1)
 
-bound_is_enough : (g : Sizes) (calls commands : ℕ) → most_of_all g calls commands ≤ round_bound g calls commands
-bound_is_enough g calls commands =
-    let same : commands ≤ commands = omega arith in
-    let more : g.managed + 1 ≤ frame_count g * (11 * g.cells + 36) + 9 * g.managed + 4 = omega arith in
+bound_is_enough : (s : Scenario) → most_of_all s ≤ round_count s
+bound_is_enough s =
+    let same : length s.host ≤ length s.host = omega arith in
+    let more : s.geometry.managed + 1 ≤ frame_count s.geometry * (11 * s.geometry.cells + 36) + 9 * s.geometry.managed + 4 = omega arith in
     omega (arith, mul-le-mul same more)
 
 module _ (s : Scenario) (keep : TurnsKeep s) (start : IsKept s (machine_at_start s)) where
-  actions_at_start : all_actions_left (machine_at_start s) ≤ most_of_all s.geometry (call_count s.owners) (length s.host)
+  actions_at_start : all_actions_left (machine_at_start s) ≤ most_of_all s
   actions_at_start =
       let owners = few_from s.geometry 1 s.owners (λ i a at. (fits_at s (machine_at_start s) start i a at).belongs.calls) in
       omega arith
 
-  ends_within : (n : ℕ) → most_of_all s.geometry (call_count s.owners) (length s.host) ≤ n → all_actions_left (after_turns (setting s) (machine_at_start s) (schedule s n)) ≡ 0
+  ends_within : (n : ℕ) → most_of_all s ≤ n → all_actions_left (after_turns (setting s) (machine_at_start s) (schedule s n)) ≡ 0
   ends_within n enough =
       let all : List Actor = actors (length s.owners) in
       let drawn : List Actor = drawn_turns all s.drawn in
@@ -78,7 +78,7 @@ module _ (s : Scenario) (keep : TurnsKeep s) (start : IsKept s (machine_at_start
       ∙ ap (λ (w : Machine). after_turns (setting s) w (rounds all n)) (after_turns-append (setting s) (machine_at_start s) (named_turns s.named) drawn))
       ∙ rounds_end s keep n m2 (turns_keep s keep m drawn kept) (omega (arith, few, fewer, actions_at_start, enough))
 
-  all_end_within : (n : ℕ) → most_of_all s.geometry (call_count s.owners) (length s.host) ≤ n → HaveEnded (after_turns (setting s) (machine_at_start s) (schedule s n))
+  all_end_within : (n : ℕ) → most_of_all s ≤ n → HaveEnded (after_turns (setting s) (machine_at_start s) (schedule s n))
   all_end_within n enough =
       ended_at s (after_turns (setting s) (machine_at_start s) (schedule s n)) (turns_keep s keep (machine_at_start s) (schedule s n) start) (ends_within n enough)
 
@@ -91,4 +91,4 @@ TurnsAreKept = (s : Scenario) (m : Machine) (actor : Actor) → IsRunnable s →
 
 pub runs_end_if_kept : StartsAreKept → TurnsAreKept → (s : Scenario) → IsRunnable s → HaveEnded (after_turns (setting s) (machine_at_start s) (schedule s (round_count s)))
 runs_end_if_kept starts turns s run =
-    all_end_within s (λ m actor kept. turns s m actor run kept) (starts s run) (round_count s) (bound_is_enough s.geometry (call_count s.owners) (length s.host))
+    all_end_within s (λ m actor kept. turns s m actor run kept) (starts s run) (round_count s) (bound_is_enough s)

@@ -1,26 +1,23 @@
 -- A lease takes a free frame into the owner's hand, where it is out for the call; a refused one changes nothing.
-use Rattle.std.proofs.Common.{◌≡◌, ◌≢◌, ℕ, suc, ◌<◌, ◌≤◌, false, List, [], ◌∷◌, ◌++◌, length, length-set, get_or, get_or-set_same, get_or-set_other, set, slice_get, sym, refl, ap, ◌∙◌, subst, inr, arith, Option, Some, None, IsSome}
-use Rattle.std.proofs.lemmas.Option.{get_or_from_slice_get, slice_get-get_or, none-some}
+use Rattle.std.proofs.Common.{◌≡◌, ◌≢◌, ℕ, suc, ◌<◌, ◌≤◌, false, List, [], ◌∷◌, ◌++◌, length, get_or-set_same, get_or-set_other, set, slice_get, sym, refl, ap, ◌∙◌, subst, inr, arith, Option, Some, None, IsSome}
+use Rattle.std.proofs.lemmas.Option.{slice_get-get_or, none-some}
 use mathlib.Core.Logic.{dite}
 use native.Mathlib.Decide.{ℕ_discrete}
-use Rattle.evac_model.specs.declared.names.FrameNo.{FrameNo}
 use Rattle.evac_model.specs.declared.names.Kind.{Kind}
 use Rattle.evac_model.specs.declared.names.PageNo.{PageNo}
 use Rattle.evac_model.specs.declared.call.Call.{Call}
-use Rattle.evac_model.specs.declared.call.Call.TheVariants.{Alloc}
 use Rattle.evac_model.specs.declared.scenario.Scenario.{Scenario}
 use Rattle.evac_model.specs.declared.space.SpaceAction.{SpaceAction}
 use Rattle.evac_model.specs.declared.space.SpaceAction.TheVariants as space
-use Rattle.evac_model.specs.Geometry.{Sizes, frame_count}
+use Rattle.evac_model.specs.Geometry.{frame_count}
 use Rattle.evac_model.specs.ScenarioGrammar.{online_of}
 use Rattle.evac_model.specs.Scenarios.{IsRunnable}
 use Rattle.evac_model.specs.Scripts.{script_of}
 use Rattle.evac_model.specs.SpaceJournal.{SpaceState, Leased, IsLeasable, out_for, lease_of, after_lease, space_at_start, Chooses, IsPossibleJournal}
 use Rattle.core_state.specs.declared.hand.HandFrame.{HandFrame}
-use Rattle.core_state.specs.declared.opening.Opening.{Opening}
 use Rattle.core_state.specs.declared.view.View.{View}
 use Rattle.core_state.specs.Views.{Has, view_of, spent, hand_frame}
-use Rattle.core_state.specs.HandOvers.{IsAtRest, hand_without, hand_with, views_after_hand_over}
+use Rattle.core_state.specs.HandOvers.{IsAtRest, views_after_hand_over}
 use Rattle.core_state.proofs.Lists.{within}
 use Rattle.core_actors.specs.declared.action.Action.TheVariants as actions
 use Rattle.core_actors.specs.declared.action.Heard.{Heard}
@@ -32,7 +29,6 @@ use Rattle.core_actors.specs.Places.{ends_call, frame_owed}
 use Rattle.core_actors.specs.Owners.{OwnerState, owner_ended, next_action, owner_after}
 use Rattle.core_actors.proofs.Allowed.{lease_allowed}
 use Rattle.core_actors.proofs.Asks.{leases_at}
-use Rattle.core_actors.proofs.HandSteps.{hand_without_one, hand_with_one}
 use Rattle.space.proofs.Journals.{space_after-append}
 use Rattle.space.proofs.Leases.{leased_free}
 use Rattle.space.proofs.SpaceLaws.{possible_goes_on}
@@ -41,7 +37,8 @@ use Rattle.replay.specs.Keeping.{IsKept}
 use Rattle.replay.specs.Machine.{Machine, free_seat, space_at}
 use Rattle.replay.specs.Runs.{opening, setting}
 use Rattle.replay.specs.FramesOut.{space_now, IsOutForCall, AreFramesPlaced}
-use Rattle.replay.proofs.FramesAfter.{IsMoved, placed_again, placed_later}
+use Rattle.replay.proofs.FramesAfter.{IsMoved, placed_again, placed_later, in_hand_out}
+use Rattle.replay.proofs.FrameHandOvers.{AreTwoHands, elsewhere, giver_gone, giver_still, receiver_still}
 use Rattle.replay.proofs.FrameSteps.{out_goes_on}
 use Rattle.replay.proofs.OutForCalls.{not_none, is_out, out_still}
 use Rattle.replay.proofs.SpaceNow.{space_is}
@@ -76,9 +73,6 @@ module _ (s : Scenario) (m : Machine) (r : IsRunnable s) (p : IsKept s m) (i : �
 
   abbrev free : ℕ
   free = free_seat (length m.owners)
-
-  was_out : (f : ℕ) → IsSome (hand_frame v f) → IsOutForCall st a.left (frame_owed a.place) f
-  was_out f some = p.frames.in_hand i a f at (subst (λ (w : View). IsSome (hand_frame w f)) (sym (get_or_from_slice_get m.snapshot.views (suc i) v spent has)) some)
 
   -- the call under way stays the same, whatever the lease gives
   out_then : (x : Heard) (after : SpaceState) (f : ℕ) → IsOutForCall after a.left (frame_owed a.place) f → IsOutForCall after (owner_after a x).left (frame_owed (owner_after a x).place) f
@@ -126,35 +120,14 @@ module _ (s : Scenario) (m : Machine) (r : IsRunnable s) (p : IsKept s m) (i : �
     giver_long : length giver.hand ≡ frame_count s.geometry
     giver_long = let y = p.seats.owners in (p.seats.others free giver (slice_get-get_or m.snapshot.views free spent free_there) (inr (omega arith))).rests.seated.hand
 
-    abbrev given : View
-    given = record giver { hand = hand_without giver.hand l.frame 1 }
-
-    abbrev got : View
-    got = record v { hand = hand_with v.hand giver.hand l.frame 1 }
-
-    others_then : (seat : ℕ) → seat ≢ suc i → seat ≢ free → view_of views seat ≡ view_of m.snapshot.views seat
-    others_then seat ne other = get_or-set_other (set m.snapshot.views free given) (suc i) seat got spent ne ∙ get_or-set_other m.snapshot.views free seat given spent other
-
-    free_then : view_of views free ≡ given
-    free_then = get_or-set_other (set m.snapshot.views free given) (suc i) free got spent (λ q. let lt = below in absurd (omega arith)) ∙ get_or-set_same m.snapshot.views free given spent free_there
-
-    mine_then : view_of views (suc i) ≡ got
-    mine_then = get_or-set_same (set m.snapshot.views free given) (suc i) got spent (let x = length-set m.snapshot.views free given in let y = within m.snapshot.views (suc i) v has in omega arith)
-
-    given_hand : hand_without giver.hand l.frame 1 ≡ set giver.hand l.frame None
-    given_hand = hand_without_one giver.hand l.frame (let low = leasable.there in let long = giver_long in omega arith)
-
-    got_hand : hand_with v.hand giver.hand l.frame 1 ≡ set v.hand l.frame (get_or giver.hand l.frame None)
-    got_hand = hand_with_one giver.hand v.hand l.frame (let low = leasable.there in let long = giver_long in omega arith) (let low = leasable.there in let long = fits.belongs.seated.hand in omega arith)
-
-    free_frame : (f : ℕ) → hand_frame (view_of views free) f ≡ get_or (set giver.hand l.frame None) f None
-    free_frame f = ap (λ (w : View). hand_frame w f) free_then ∙ ap (λ (h : List (Option HandFrame)). get_or h f None) given_hand
-
-    my_frame : (f : ℕ) → f ≢ l.frame → hand_frame (view_of views (suc i)) f ≡ hand_frame v f
-    my_frame f ne = ap (λ (w : View). hand_frame w f) mine_then ∙ (ap (λ (h : List (Option HandFrame)). get_or h f None) got_hand ∙ get_or-set_other v.hand l.frame f (get_or giver.hand l.frame None) None ne)
-
-    gone : hand_frame (view_of views free) l.frame ≡ None
-    gone = free_frame l.frame ∙ get_or-set_same giver.hand l.frame None None (let low = leasable.there in let long = giver_long in omega arith)
+    hands : AreTwoHands m.snapshot.views free (suc i) giver v l.frame
+    hands = record {
+      apart = λ q. let lt = below in absurd (omega arith);
+      from_there = free_there;
+      to_there = within m.snapshot.views (suc i) v has;
+      giver_place = let low = leasable.there in let long = giver_long in omega arith;
+      receiver_place = let low = leasable.there in let long = fits.belongs.seated.hand in omega arith;
+    }
 
     -- ---- the journal
 
@@ -164,12 +137,12 @@ module _ (s : Scenario) (m : Machine) (r : IsRunnable s) (p : IsKept s m) (i : �
         (possible_goes_on s.geometry (online_of s) (space_at_start s.geometry s.start) m.journal (space.Lease (suc i) (record { 0 = l.frame }) page kind)).1
         (p.frames.possible, (few, may.1, subst (λ (x : Option Leased). Chooses x l.frame) (sym e) refl))
 
-    moved : (n : ℕ) (place : n ≡ i) → IsMoved s m p.frames i below (owner_after a (heard.Leased (record { 0 = l.frame }))) n place views others_then journal l.frame
+    moved : (n : ℕ) (place : n ≡ i) → IsMoved s m p.frames i below (owner_after a (heard.Leased (record { 0 = l.frame }))) n place views (elsewhere m.snapshot.views free (suc i) giver v l.frame hands) journal l.frame
     moved n place = record {
       possible = possible;
       offline = ap (λ (x : SpaceState). x.offline) behind;
       out = out_other;
-      free = λ f ne. free_frame f ∙ get_or-set_other giver.hand l.frame f None None ne;
+      free = giver_still m.snapshot.views free (suc i) giver v l.frame hands;
       unmapped = λ q low on same. none-some _ (sym leasable.not_out ∙ (ap (λ (f : ℕ). out_for st f) (sym same) ∙ p.frames.mapped q low on));
       in_no_hand = λ j b ne at_j had. is_out st l.frame b.left (frame_owed b.place) (p.frames.in_hand j b l.frame at_j had) leasable.not_out;
     }
@@ -177,13 +150,13 @@ module _ (s : Scenario) (m : Machine) (r : IsRunnable s) (p : IsKept s m) (i : �
     in_hand_then : (f : ℕ) → IsSome (hand_frame (view_of views (suc i)) f) → IsOutForCall then a.left (frame_owed a.place) f
     in_hand_then f some = dite (ℕ_discrete f l.frame)
         (λ same. out_as_asked a page kind then f is (ap (λ (g : ℕ). out_for then g) same ∙ out_here))
-        (λ ne. out_still st f then a.left (frame_owed a.place) (out_other f ne) (was_out f (subst (λ (x : Option HandFrame). IsSome x) (my_frame f ne) some)))
+        (λ ne. out_still st f then a.left (frame_owed a.place) (out_other f ne) (in_hand_out s m p.frames i a v at has f (subst (λ (x : Option HandFrame). IsSome x) (receiver_still m.snapshot.views free (suc i) giver v l.frame hands f ne) some)))
 
     pub lease_placed : (n : ℕ) → n ≡ i → AreFramesPlaced s (record m {
       snapshot = record { words = m.snapshot.words; views = views };
       owners = set m.owners n (owner_after a (heard.Leased (record { 0 = l.frame })));
       journal = journal;
     })
-    lease_placed n place = placed_later s m p.frames i below (owner_after a (heard.Leased (record { 0 = l.frame }))) n place views others_then journal l.frame (moved n place)
-        (λ had. absurd (not_none _ had gone), λ q. absurd (none-some _ (sym q.0 ∙ out_here)))
+    lease_placed n place = placed_later s m p.frames i below (owner_after a (heard.Leased (record { 0 = l.frame }))) n place views (elsewhere m.snapshot.views free (suc i) giver v l.frame hands) journal l.frame (moved n place)
+        (λ had. absurd (not_none _ had (giver_gone m.snapshot.views free (suc i) giver v l.frame hands)), λ q. absurd (none-some _ (sym q.0 ∙ out_here)))
         (λ f some. out_then (heard.Leased (record { 0 = l.frame })) then f (in_hand_then f some))

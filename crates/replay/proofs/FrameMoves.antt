@@ -1,13 +1,11 @@
 -- A step on the mapping takes a frame from the owner's hand to the page that it is out for, or back.
 use Rattle.std.proofs.Common.{◌≡◌, ℕ, suc, ◌<◌, false, List, [], ◌∷◌, get_or, get_or-set_same, get_or-set_other, set, slice_get, sym, refl, ap, ◌∙◌, subst, arith, Option, Some, None, is_some, IsSome, IsSomeAnd}
-use Rattle.std.proofs.lemmas.Option.{get_or_from_slice_get}
 use mathlib.Core.Logic.{dite}
 use native.Mathlib.Decide.{ℕ_discrete}
 use Rattle.evac_model.specs.declared.names.FrameNo.{FrameNo}
 use Rattle.evac_model.specs.declared.names.Kind.{Kind}
 use Rattle.evac_model.specs.declared.names.PageNo.{PageNo}
 use Rattle.evac_model.specs.declared.call.Call.{Call}
-use Rattle.evac_model.specs.declared.call.Call.TheVariants.{Alloc, Free, Read, Write, Add, Pin, Unpin}
 use Rattle.evac_model.specs.declared.scenario.Scenario.{Scenario}
 use Rattle.evac_model.specs.Geometry.{Sizes}
 use Rattle.evac_model.specs.Scenarios.{IsRunnable}
@@ -51,7 +49,7 @@ use Rattle.replay.specs.Keeping.{IsKept}
 use Rattle.replay.specs.Machine.{Machine}
 use Rattle.replay.specs.Runs.{opening}
 use Rattle.replay.specs.FramesOut.{space_now, IsOutForCall, AreFramesPlaced}
-use Rattle.replay.proofs.FramesAfter.{AreMappedOut, placed_again}
+use Rattle.replay.proofs.FramesAfter.{AreMappedOut, placed_again, in_hand_out}
 use Rattle.replay.proofs.FrameSteps.{out_goes_on}
 
 -- ---- which step it is
@@ -147,10 +145,6 @@ module _ (s : Scenario) (m : Machine) (r : IsRunnable s) (p : IsKept s m) (i : �
   abbrev HandOut : MoveStep → Option Held → Type 0
   HandOut step held = (f : ℕ) → IsSome (hand_frame (view_after_move OneOwner (record v { held = held }) step) f) → IsOutForCall st a.left (frame_owed a.place) f
 
-  -- what was in hand
-  was_out : (f : ℕ) → IsSome (hand_frame v f) → IsOutForCall st a.left (frame_owed a.place) f
-  was_out f some = p.frames.in_hand i a f at (subst (λ (w : View). IsSome (hand_frame w f)) (sym (get_or_from_slice_get m.snapshot.views (suc i) v spent has)) some)
-
   -- ---- map
 
   module _ (page : PageNo) (kind : Kind) (frame : FrameNo) (held_is : (h : Held) → v.held ≡ Some h → h.page ≡ page)
@@ -161,7 +155,7 @@ module _ (s : Scenario) (m : Machine) (r : IsRunnable s) (p : IsKept s m) (i : �
         let h = q.0 in
         let x = for_some_in (hand_frame v frame.0) (λ x. MayMap OneOwner (opening s) h x kind) (q.2).1 in
         let few : frame.0 < 1048576 = let a = in_range (opening s) v frame.0 x.0 may.0 x.1 in let b = r.limits.frames in omega arith in
-        let out = out_as frame.0 (was_out frame.0 (ap (λ (y : Option HandFrame). is_some y) x.1)) in
+        let out = out_as frame.0 (in_hand_out s m p.frames i a v at has frame.0 (ap (λ (y : Option HandFrame). is_some y) x.1)) in
         subst (WordsOut (Map frame kind)) (sym q.1)
         (mapped_entry s st m.snapshot.words p.seats.sound.shaped h.page.0 (mapped_word h.word frame.0 kind)
         (λ on. ap (λ (f : ℕ). out_for st f) (frame_of-mapped h.word frame.0 kind few) ∙ (out
@@ -169,7 +163,7 @@ module _ (s : Scenario) (m : Machine) (r : IsRunnable s) (p : IsKept s m) (i : �
         p.frames.mapped)
 
     hand_map : HandOut (Map frame kind) v.held
-    hand_map f some = was_out f (dite (ℕ_discrete f frame.0)
+    hand_map f some = in_hand_out s m p.frames i a v at has f (dite (ℕ_discrete f frame.0)
         (λ e. absurd (
         let gone : get_or (set v.hand frame.0 None) f None ≡ None = ap (λ (g : ℕ). get_or (set v.hand frame.0 None) g None) e ∙ hand-set_same v.hand frame.0 None (λ none. refl) in cc))
         (λ ne. subst (λ (x : Option HandFrame). IsSome x) (get_or-set_other v.hand frame.0 f None None ne) some))
@@ -195,7 +189,7 @@ module _ (s : Scenario) (m : Machine) (r : IsRunnable s) (p : IsKept s m) (i : �
         subst (HandOut Unmap) (sym q.1)
         (λ f some. dite (ℕ_discrete f (frame_of h.word))
         (λ e. to_out f (kind_in h.word) (ap (λ (g : ℕ). out_for st g) e ∙ (out ∙ ap (λ (g : PageNo). Some (record { page = g.0; kind = kind_in h.word })) (held_is h q.1))))
-        (λ ne. was_out f (subst (λ (x : Option HandFrame). IsSome x) (get_or-set_other v.hand (frame_of h.word) f (Some (let_out OneOwner v.cells h)) None ne) some)))
+        (λ ne. in_hand_out s m p.frames i a v at has f (subst (λ (x : Option HandFrame). IsSome x) (get_or-set_other v.hand (frame_of h.word) f (Some (let_out OneOwner v.cells h)) None ne) some)))
 
   -- ---- either
 

@@ -1,6 +1,6 @@
 -- A frame given back goes from the owner's hand to the free frames, and is out no more.
-use Rattle.std.proofs.Common.{◌≡◌, ◌≢◌, ℕ, suc, ◌<◌, ◌≤◌, Bool, true, false, List, [], ◌∷◌, ◌++◌, length, length-set, get_or, get_or-set_same, get_or-set_other, set, slice_get, sym, refl, ap, ◌∙◌, subst, inr, arith, Option, Some, None, IsSome}
-use Rattle.std.proofs.lemmas.Option.{get_or_from_slice_get, slice_get-get_or}
+use Rattle.std.proofs.Common.{◌≡◌, ◌≢◌, ℕ, suc, ◌<◌, ◌≤◌, Bool, true, false, List, [], ◌∷◌, ◌++◌, length, get_or-set_same, get_or-set_other, set, slice_get, sym, refl, ap, ◌∙◌, subst, inr, arith, Option, Some, None, IsSome}
+use Rattle.std.proofs.lemmas.Option.{slice_get-get_or}
 use mathlib.Core.Logic.{dite}
 use native.Mathlib.Decide.{ℕ_discrete}
 use Rattle.evac_model.specs.declared.names.FrameNo.{FrameNo}
@@ -9,18 +9,17 @@ use Rattle.evac_model.specs.declared.call.Call.{Call}
 use Rattle.evac_model.specs.declared.scenario.Scenario.{Scenario}
 use Rattle.evac_model.specs.declared.space.SpaceAction.{SpaceAction}
 use Rattle.evac_model.specs.declared.space.SpaceAction.TheVariants as space
-use Rattle.evac_model.specs.Geometry.{Sizes, frame_count}
+use Rattle.evac_model.specs.Geometry.{frame_count}
 use Rattle.evac_model.specs.ScenarioGrammar.{online_of}
 use Rattle.evac_model.specs.Scenarios.{IsRunnable}
 use Rattle.evac_model.specs.Scripts.{script_of}
 use Rattle.evac_model.specs.SpaceJournal.{SpaceState, out_for, is_frame_in, after_action, space_at_start, IsPossibleJournal}
 use Rattle.evac_words.specs.Word.{mapped_bit, frame_of, bit_of}
 use Rattle.core_state.specs.declared.hand.HandFrame.{HandFrame}
-use Rattle.core_state.specs.declared.opening.Opening.{Opening}
 use Rattle.core_state.specs.declared.view.View.{View}
 use Rattle.core_state.specs.Words.{entry_word_of}
 use Rattle.core_state.specs.Views.{Has, view_of, spent, hand_frame, times_in_hand}
-use Rattle.core_state.specs.HandOvers.{IsAtRest, hand_without, hand_with, views_after_hand_over}
+use Rattle.core_state.specs.HandOvers.{IsAtRest, views_after_hand_over}
 use Rattle.core_state.proofs.Frames.{frame_once, maps_le, maps_to-one}
 use Rattle.core_state.proofs.Lists.{within, member_le_sum_by, two_members_le_sum_by}
 use Rattle.core_state.proofs.RoomMoves.{for_some_in}
@@ -34,7 +33,6 @@ use Rattle.core_actors.specs.Places.{frame_owed}
 use Rattle.core_actors.specs.Owners.{OwnerState, owner_ended, next_action, owner_after}
 use Rattle.core_actors.proofs.Allowed.{return_allowed}
 use Rattle.core_actors.proofs.Asks.{returns_at}
-use Rattle.core_actors.proofs.HandSteps.{hand_without_one, hand_with_one}
 use Rattle.space.proofs.Journals.{space_after-append}
 use Rattle.space.proofs.SpaceLaws.{possible_goes_on}
 use Rattle.space.specs.SpaceInside.{IsSpace}
@@ -42,7 +40,8 @@ use Rattle.replay.specs.Keeping.{IsKept}
 use Rattle.replay.specs.Machine.{Machine, free_seat, space_at}
 use Rattle.replay.specs.Runs.{opening, setting}
 use Rattle.replay.specs.FramesOut.{HasFrame, space_now, AreFramesPlaced}
-use Rattle.replay.proofs.FramesAfter.{IsMoved, placed_later}
+use Rattle.replay.proofs.FramesAfter.{IsMoved, placed_later, in_hand_out}
+use Rattle.replay.proofs.FrameHandOvers.{AreTwoHands, elsewhere, giver_gone, giver_still, receiver_has, receiver_still}
 use Rattle.replay.proofs.OutForCalls.{not_none, is_out}
 use Rattle.replay.proofs.SpaceNow.{space_is}
 
@@ -72,7 +71,7 @@ module _ (s : Scenario) (m : Machine) (r : IsRunnable s) (p : IsKept s m) (i : �
   is_space = space_is s m r p.frames
 
   was_out : out_for st frame.0 ≢ None
-  was_out = is_out st frame.0 a.left (frame_owed a.place) (p.frames.in_hand i a frame.0 at (subst (λ (w : View). IsSome (hand_frame w frame.0)) (sym (get_or_from_slice_get m.snapshot.views (suc i) v spent has)) may.1))
+  was_out = is_out st frame.0 a.left (frame_owed a.place) (in_hand_out s m p.frames i a v at has frame.0 may.1)
 
   -- it is the one that was to be given back
   in_hand : HasInHand v (Some frame) (IsZeroed (opening s).cells 0)
@@ -154,56 +153,38 @@ module _ (s : Scenario) (m : Machine) (r : IsRunnable s) (p : IsKept s m) (i : �
   free_long : length receiver.hand ≡ frame_count s.geometry
   free_long = let y = p.seats.owners in (p.seats.others free receiver (slice_get-get_or m.snapshot.views free spent free_there) (inr (omega arith))).rests.seated.hand
 
-  abbrev given : View
-  given = record v { hand = hand_without v.hand frame.0 1 }
+  hands : AreTwoHands m.snapshot.views (suc i) free v receiver frame.0
+  hands = record {
+    apart = λ q. let lt = below in absurd (omega arith);
+    from_there = within m.snapshot.views (suc i) v has;
+    to_there = free_there;
+    giver_place = let lt = low in let long = fits.belongs.seated.hand in omega arith;
+    receiver_place = let lt = low in let long = free_long in omega arith;
+  }
 
-  abbrev got : View
-  got = record receiver { hand = hand_with receiver.hand v.hand frame.0 1 }
-
-  others_then : (seat : ℕ) → seat ≢ suc i → seat ≢ free → view_of views seat ≡ view_of m.snapshot.views seat
-  others_then seat ne other = get_or-set_other (set m.snapshot.views (suc i) given) free seat got spent other ∙ get_or-set_other m.snapshot.views (suc i) seat given spent ne
-
-  free_then : view_of views free ≡ got
-  free_then = get_or-set_same (set m.snapshot.views (suc i) given) free got spent (let x = length-set m.snapshot.views (suc i) given in let y = free_there in omega arith)
-
-  mine_then : view_of views (suc i) ≡ given
-  mine_then = get_or-set_other (set m.snapshot.views (suc i) given) free (suc i) got spent (λ q. let lt = below in absurd (omega arith)) ∙ get_or-set_same m.snapshot.views (suc i) given spent (within m.snapshot.views (suc i) v has)
-
-  given_hand : hand_without v.hand frame.0 1 ≡ set v.hand frame.0 None
-  given_hand = hand_without_one v.hand frame.0 (let lt = low in let long = fits.belongs.seated.hand in omega arith)
-
-  got_hand : hand_with receiver.hand v.hand frame.0 1 ≡ set receiver.hand frame.0 (hand_frame v frame.0)
-  got_hand = hand_with_one v.hand receiver.hand frame.0 (let lt = low in let long = fits.belongs.seated.hand in omega arith) (let lt = low in let long = free_long in omega arith)
-
-  free_frame : (f : ℕ) → hand_frame (view_of views free) f ≡ get_or (set receiver.hand frame.0 (hand_frame v frame.0)) f None
-  free_frame f = ap (λ (w : View). hand_frame w f) free_then ∙ ap (λ (h : List (Option HandFrame)). get_or h f None) got_hand
-
-  my_frame : (f : ℕ) → hand_frame (view_of views (suc i)) f ≡ get_or (set v.hand frame.0 None) f None
-  my_frame f = ap (λ (w : View). hand_frame w f) mine_then ∙ ap (λ (h : List (Option HandFrame)). get_or h f None) given_hand
-
-  free_has : IsSome (hand_frame (view_of views free) frame.0)
-  free_has = subst (λ (x : Option HandFrame). IsSome x) (sym (free_frame frame.0 ∙ get_or-set_same receiver.hand frame.0 (hand_frame v frame.0) None (let lt = low in let long = free_long in omega arith))) may.1
+  others_stay : (seat : ℕ) (mine : seat ≢ suc i) (other : seat ≢ free) → view_of views seat ≡ view_of m.snapshot.views seat
+  others_stay seat mine other = elsewhere m.snapshot.views (suc i) free v receiver frame.0 hands seat other mine
 
   -- the owner's hand is empty
   empty_then : (f : ℕ) → hand_frame (view_of views (suc i)) f ≡ None
   empty_then f = dite (ℕ_discrete f frame.0)
-      (λ e. ap (λ (g : ℕ). hand_frame (view_of views (suc i)) g) e ∙ (my_frame frame.0 ∙ get_or-set_same v.hand frame.0 None None (let lt = low in let long = fits.belongs.seated.hand in omega arith)))
-      (λ ne. my_frame f ∙ (get_or-set_other v.hand frame.0 f None None ne ∙ alone f ne))
+      (λ e. ap (λ (g : ℕ). hand_frame (view_of views (suc i)) g) e ∙ giver_gone m.snapshot.views (suc i) free v receiver frame.0 hands)
+      (λ ne. giver_still m.snapshot.views (suc i) free v receiver frame.0 hands f ne ∙ alone f ne)
 
   -- ---- the frames then
 
-  moved : (n : ℕ) (place : n ≡ i) → IsMoved s m p.frames i below (owner_after a Nothing) n place views others_then journal frame.0
+  moved : (n : ℕ) (place : n ≡ i) → IsMoved s m p.frames i below (owner_after a Nothing) n place views others_stay journal frame.0
   moved n place = record {
     possible = possible;
     offline = offline_still;
     out = out_other;
-    free = λ f ne. free_frame f ∙ get_or-set_other receiver.hand frame.0 f (hand_frame v frame.0) None ne;
+    free = receiver_still m.snapshot.views (suc i) free v receiver frame.0 hands;
     unmapped = unmapped;
     in_no_hand = in_no_hand;
   }
 
   -- `n` is the place of the owner
   pub return_placed : (n : ℕ) → n ≡ i → AreFramesPlaced s (record m { snapshot = record { words = m.snapshot.words; views = views }; owners = set m.owners n (owner_after a Nothing); journal = journal })
-  return_placed n place = placed_later s m p.frames i below (owner_after a Nothing) n place views others_then journal frame.0 (moved n place)
-      (λ had. (out_here, ap (λ (l : List ℕ). is_frame_in s.geometry l frame.0) offline_still ∙ plugged (is_frame_in s.geometry st.offline frame.0) refl), λ q. free_has)
+  return_placed n place = placed_later s m p.frames i below (owner_after a Nothing) n place views others_stay journal frame.0 (moved n place)
+      (λ had. (out_here, ap (λ (l : List ℕ). is_frame_in s.geometry l frame.0) offline_still ∙ plugged (is_frame_in s.geometry st.offline frame.0) refl), λ q. subst (λ (x : Option HandFrame). IsSome x) (sym (receiver_has m.snapshot.views (suc i) free v receiver frame.0 hands)) may.1)
       (λ f some. absurd (not_none _ some (empty_then f)))

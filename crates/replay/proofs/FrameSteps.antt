@@ -1,6 +1,5 @@
 -- A step on a word leaves the frames where they are.
-use Rattle.std.proofs.Common.{◌≡◌, ◌≢◌, ℕ, suc, ◌<◌, ◌==◌, Bool, true, false, if◌then◌else◌, eqb, List, [], ◌∷◌, get_or, get_or-set_same, get_or-set_other, set, slice_get, bit_or, sym, refl, ap, ◌∙◌, subst, arith, Option, Some, None, IsSome}
-use Rattle.std.proofs.lemmas.Option.{get_or_from_slice_get}
+use Rattle.std.proofs.Common.{◌≡◌, ◌≢◌, ℕ, suc, ◌<◌, ◌==◌, false, List, [], ◌∷◌, get_or, get_or-set_same, get_or-set_other, set, slice_get, bit_or, sym, refl, ap, ◌∙◌, subst, arith, Option, Some, None, IsSome}
 use mathlib.Core.Logic.{dite}
 use native.Mathlib.Decide.{ℕ_discrete}
 use Rattle.evac_model.specs.declared.names.FrameNo.{FrameNo}
@@ -11,10 +10,9 @@ use Rattle.evac_model.specs.declared.scenario.Scenario.{Scenario}
 use Rattle.evac_model.specs.Page.{kind_of}
 use Rattle.evac_model.specs.Scripts.{script_of}
 use Rattle.evac_model.specs.SpaceJournal.{SpaceState, out_for}
-use Rattle.evac_words.specs.Word.{taken_bit, mapped_bit, pins_of, frame_of, bound_of}
+use Rattle.evac_words.specs.Word.{mapped_bit, pins_of, frame_of, bound_of}
 use Rattle.evac_words.specs.Table.{entry_index}
 use Rattle.core_state.specs.declared.hand.HandFrame.{HandFrame}
-use Rattle.core_state.specs.declared.held.Change.{Change}
 use Rattle.core_state.specs.declared.held.Held.{Held}
 use Rattle.core_state.specs.declared.keeper.Keeper.{Keeper}
 use Rattle.core_state.specs.declared.keeper.Keeper.TheVariants.{OneOwner}
@@ -33,7 +31,6 @@ use Rattle.core_state.proofs.FrameSteps.{hand-set_same}
 use Rattle.core_state.proofs.Holding.{for_some}
 use Rattle.core_state.proofs.Lists.{within}
 use Rattle.core_state.proofs.WordsAt.{entry_word-here, entry_word-elsewhere, entry_word-other, entry_within}
-use Rattle.core_actors.specs.declared.action.Action.{Action}
 use Rattle.core_actors.specs.declared.action.Action.TheVariants as actions
 use Rattle.core_actors.specs.declared.action.Heard.{Heard}
 use Rattle.core_actors.specs.Actions.{heard_by, IsStorable}
@@ -52,8 +49,8 @@ use Rattle.core_actors.proofs.LeaseKept.{first_owes, place_owes}
 use Rattle.replay.specs.Keeping.{IsKept}
 use Rattle.replay.specs.Machine.{Machine}
 use Rattle.replay.specs.Runs.{opening}
-use Rattle.replay.specs.FramesOut.{HasFrame, space_now, IsOutForCall, AreFramesPlaced}
-use Rattle.replay.proofs.FramesAfter.{AreMappedOut, placed_again}
+use Rattle.replay.specs.FramesOut.{space_now, IsOutForCall, AreFramesPlaced}
+use Rattle.replay.proofs.FramesAfter.{AreMappedOut, placed_again, in_hand_out}
 use Rattle.replay.proofs.OutForCalls.{is_out, out_to_return}
 use Rattle.replay.proofs.OwnersStay.{goes_on}
 
@@ -216,10 +213,9 @@ module _ (s : Scenario) (m : Machine) (p : IsKept s m) (i : ℕ) (a : OwnerState
   in_hand_then frame some =
       let now : view_of views (suc i) ≡ view_after OneOwner v step word = get_or-set_same m.snapshot.views (suc i) (view_after OneOwner v step word) spent (within m.snapshot.views (suc i) v has) in
       let had : IsSome (hand_frame (view_after OneOwner v step word) frame) = subst (λ (w : View). IsSome (hand_frame w frame)) now some in
-      let was : HasFrame m (suc i) frame = subst (λ (w : View). IsSome (hand_frame w frame)) (sym (get_or_from_slice_get m.snapshot.views (suc i) v spent has)) (hand_before OneOwner v step word frame had) in
       let none = owes_none a.place a.left step is in
       out_after (space_now s m) (view_after OneOwner v step word) frame (opening s).cells had a heard none fits_then.has
-      (subst (λ (b : Option FrameNo). IsOutForCall (space_now s m) a.left b frame) none (p.frames.in_hand i a frame at was))
+      (subst (λ (b : Option FrameNo). IsOutForCall (space_now s m) a.left b frame) none (in_hand_out s m p.frames i a v at has frame (hand_before OneOwner v step word frame had)))
 
   -- `n` is the place of the owner
   pub step_placed : (n : ℕ) → n ≡ i → AreFramesPlaced s (record m {

@@ -1,13 +1,9 @@
 -- The frames are where the journals have them after each turn.
-use Rattle.std.proofs.Common.{◌≡◌, ℕ, zero, suc, ◌-◌, ◌<◌, Bool, true, false, if◌then◌else◌, [], length, slice_get, refl, ap, arith, Option, Some, None}
-use Rattle.std.proofs.lemmas.List.{get_or_past}
+use Rattle.std.proofs.Common.{◌≡◌, ℕ, suc, ◌-◌, ◌<◌, false, [], length, slice_get, refl, arith, Option, Some, None}
 use Rattle.std.proofs.lemmas.Option.{slice_get-get_or}
-use mathlib.Core.Logic.{dite}
-use native.Mathlib.Decide.{dec_lt}
 use Rattle.evac_model.specs.declared.names.Kind.{Kind}
 use Rattle.evac_model.specs.declared.names.PageNo.{PageNo}
 use Rattle.evac_model.specs.declared.scenario.Actor.{Actor}
-use Rattle.evac_model.specs.declared.scenario.Actor.TheVariants.{Owner, Host, Scanner}
 use Rattle.evac_model.specs.declared.scenario.Scenario.{Scenario}
 use Rattle.evac_model.specs.Scenarios.{IsRunnable}
 use Rattle.evac_model.specs.ScenarioGrammar.{online_of}
@@ -16,10 +12,9 @@ use Rattle.core_state.specs.Views.{Has, view_of, spent}
 use Rattle.core_actors.specs.declared.action.Action.{Action}
 use Rattle.core_actors.specs.declared.action.Action.TheVariants as actions
 use Rattle.core_actors.specs.declared.action.SpaceCall.TheVariants.{Lease, Return, Online}
-use Rattle.core_actors.specs.Hosts.{host_action, host_ended}
 use Rattle.core_actors.specs.Owners.{OwnerState, owner_at_start, owner_ended, next_action}
 use Rattle.replay.specs.Keeping.{IsKept}
-use Rattle.replay.specs.Machine.{Machine, free_seat, unplugged_seat, owner_of, scene_of, with_scene, host_scene_of, with_host_scene, after_lease, after_action, after_host_action, after_turn}
+use Rattle.replay.specs.Machine.{Machine, free_seat, owner_of, scene_of, with_scene, after_lease, after_action, after_turn}
 use Rattle.replay.specs.Runs.{setting}
 use Rattle.replay.specs.FramesOut.{space_now, AreFramesPlaced}
 use Rattle.replay.proofs.FramesAfter.{placed_again}
@@ -28,6 +23,7 @@ use Rattle.replay.proofs.FrameMoves.{move_placed}
 use Rattle.replay.proofs.FrameLeases.{refusal_placed, lease_placed}
 use Rattle.replay.proofs.FrameReturns.{return_placed}
 use Rattle.replay.proofs.HostFrames.{host_frames_placed}
+use Rattle.replay.proofs.TurnCases.{turn_cases}
 
 -- ---- the next action of an owner that hasn't ended
 
@@ -67,24 +63,7 @@ module _ (s : Scenario) (m : Machine) (r : IsRunnable s) (p : IsKept s m) (i : �
 
 -- ---- a turn
 
-module _ (s : Scenario) (m : Machine) (r : IsRunnable s) (p : IsKept s m) where
-  going_turn : (k : ℕ) → owner_ended (owner_of m.owners k) ≡ false → AreFramesPlaced s (with_scene m k (after_action (setting s) k (free_seat (length m.owners)) (scene_of m k) (next_action (owner_of m.owners k))))
-  going_turn zero going = absurd (cc)
-  going_turn (suc i) going = dite (dec_lt i (length m.owners))
-      (λ below. by_action s m r p i below going (next_action (owner_of m.owners (suc i))) refl)
-      (λ past. let none : owner_ended (owner_of m.owners (suc i)) ≡ true = ap (λ (a : OwnerState). owner_ended a) (get_or_past m.owners i (owner_at_start 0 0 []) (omega arith)) in absurd (cc))
-
-  owner_turn : (k : ℕ) (b : Bool) → owner_ended (owner_of m.owners k) ≡ b
-      → AreFramesPlaced s (if b then m else with_scene m k (after_action (setting s) k (free_seat (length m.owners)) (scene_of m k) (next_action (owner_of m.owners k))))
-  owner_turn k true ended = p.frames
-  owner_turn k false going = going_turn k going
-
-  host_turn : (b : Bool) → host_ended m.host ≡ b
-      → AreFramesPlaced s (if b then m else with_host_scene m (after_host_action s.geometry (free_seat (length m.owners)) (unplugged_seat (length m.owners)) (host_scene_of m) (host_action m.host)))
-  host_turn true ended = p.frames
-  host_turn false going = host_frames_placed s m r p going
-
 pub frames_placed : (s : Scenario) (m : Machine) (actor : Actor) → IsRunnable s → IsKept s m → AreFramesPlaced s (after_turn (setting s) m actor)
-frames_placed s m (Owner k) r p = owner_turn s m r p k (owner_ended (owner_of m.owners k)) refl
-frames_placed s m Host r p = host_turn s m r p (host_ended m.host) refl
-frames_placed s m Scanner r p = p.frames
+frames_placed s m actor r p = turn_cases (setting s) m (AreFramesPlaced s) p.frames
+    (λ i below going. by_action s m r p i below going (next_action (owner_of m.owners (suc i))) refl)
+    (host_frames_placed s m r p) actor

@@ -1,6 +1,7 @@
 -- The frames are where the journals have them after an action that changed the seat of one owner, and the hand of
 -- the free frames by one frame at most.
 use Rattle.std.proofs.Common.{◌≡◌, ◌≢◌, ◌⊎◌, ◌↔◌, ℕ, suc, ◌+◌, ◌<◌, false, true, List, length, length-set, set, slice_get, sym, ap, ◌∙◌, subst, ⊎_elim, arith, Option, Some, None, IsSome}
+use Rattle.std.proofs.lemmas.Option.{get_or_from_slice_get}
 use mathlib.Core.Logic.{dite}
 use native.Mathlib.Decide.{ℕ_discrete}
 use Rattle.evac_model.specs.declared.scenario.Scenario.{Scenario}
@@ -14,7 +15,7 @@ use Rattle.evac_words.specs.Word.{mapped_bit, frame_of}
 use Rattle.core_state.specs.declared.hand.HandFrame.{HandFrame}
 use Rattle.core_state.specs.declared.view.View.{View}
 use Rattle.core_state.specs.Words.{entry_word_of, kind_in}
-use Rattle.core_state.specs.Views.{view_of, hand_frame}
+use Rattle.core_state.specs.Views.{Has, view_of, spent, hand_frame}
 use Rattle.core_state.proofs.Lists.{at_set, within}
 use Rattle.core_actors.specs.Owners.{OwnerState}
 use Rattle.core_actors.specs.Places.{frame_owed}
@@ -119,3 +120,10 @@ module _ (s : Scenario) (m : Machine) (p : AreFramesPlaced s m) (i : ℕ) (below
             (h.out frame (λ e. h.in_no_hand j b q.0 q.1 (subst (λ (g : ℕ). HasFrame m (suc j) g) e had))) (p.in_hand j b frame q.1 had))
             (which j b at);
       }
+
+-- ---- what an owner has in hand
+
+-- it is out for the owner's call
+pub in_hand_out : (s : Scenario) (m : Machine) (p : AreFramesPlaced s m) (i : ℕ) (a : OwnerState) (v : View) → slice_get m.owners i ≡ Some a → Has m.snapshot.views (suc i) v
+    → (f : ℕ) → IsSome (hand_frame v f) → IsOutForCall (space_now s m) a.left (frame_owed a.place) f
+in_hand_out s m p i a v at has f some = p.in_hand i a f at (subst (λ (w : View). IsSome (hand_frame w f)) (sym (get_or_from_slice_get m.snapshot.views (suc i) v spent has)) some)

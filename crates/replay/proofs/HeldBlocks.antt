@@ -11,14 +11,12 @@ use Rattle.evac_model.specs.declared.host.HostResult.TheVariants as results
 use Rattle.evac_model.specs.Geometry.{Sizes}
 use Rattle.evac_model.specs.DeviceAnswer.{DeviceState, is_good_range, request_in, device_answer}
 use Rattle.evac_model.specs.HostCommands.{BlockRange, unplugs, answer_to, plugged_by, blocks_of}
-use Rattle.evac_model.specs.Numbers.{is_in, is_between}
+use Rattle.evac_model.specs.Numbers.{is_in, is_between, united, without_range}
 use Rattle.evac_model.proofs.Ranges.{between_inside, between_above}
 use Rattle.core_state.specs.declared.opening.Opening.{Opening}
 use Rattle.core_state.specs.declared.snapshot.Snapshot.{Snapshot}
 use Rattle.core_actors.proofs.HostCounts.{plugged_in_within}
-use Rattle.evac_model.specs.Numbers.{united, without_range}
-use Rattle.evac_model.specs.Counts.{Calls}
-use Rattle.evac_model.specs.Counts.{Rose}
+use Rattle.evac_model.specs.Counts.{Calls, Rose}
 use Rattle.mem_device.specs.HandState.{HandState}
 use Rattle.mem_device.specs.Answering.{IsAnswer, IsBack}
 use Rattle.evac_model.proofs.Members.{is_in-range_with_len}

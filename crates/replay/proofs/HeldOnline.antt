@@ -20,7 +20,7 @@ use Rattle.core_actors.specs.declared.action.DeviceCall.TheVariants as calls
 use Rattle.core_actors.specs.declared.action.DeviceHeard.TheVariants as device_heard
 use Rattle.core_actors.specs.declared.action.Heard.TheVariants as heard
 use Rattle.core_actors.specs.declared.action.SpaceCall.TheVariants.{Online}
-use Rattle.core_actors.specs.Hosts.{HostState, host_ended, host_action, action_for, host_after, after_heard, with_result, result_now, but_first}
+use Rattle.core_actors.specs.Hosts.{HostState, host_ended, host_action, action_for, host_after, host_after_at, with_result, result_now, but_first}
 use Rattle.evac_model.specs.Numbers.{without_range}
 use Rattle.mem_device.specs.HandState.{HandState}
 use Rattle.replay.specs.HostSeats.{asked_blocks}
@@ -50,7 +50,7 @@ module _ (h : HostState) (given : HostResult) (r : BlockRange) where
 
 module _ (h : HostState) (bytes : List ℕ) (response : Response) where
   abbrev IsAskedOf : List HostCommand → Type 0
-  IsAskedOf left = action_for left h.online ≡ actions.Device (calls.Request bytes) → blocks_of (after_heard left h (heard.Device (device_heard.Answered response))).online ≡ blocks_of (plugged_by h.sizes (request_in bytes) response)
+  IsAskedOf left = action_for left h.online ≡ actions.Device (calls.Request bytes) → blocks_of (host_after_at left h (heard.Device (device_heard.Answered response))).online ≡ blocks_of (plugged_by h.sizes (request_in bytes) response)
 
   asked_by : (left : List HostCommand) (b : Bool) → (h.online.count == 0) ≡ b → IsAskedOf left
   asked_by [] b e is = absurd (cc)
@@ -62,7 +62,7 @@ module _ (h : HostState) (bytes : List ℕ) (response : Response) where
 
 module _ (h : HostState) (config : Config) where
   abbrev IsAskedConfig : List HostCommand → Type 0
-  IsAskedConfig left = action_for left h.online ≡ actions.Device calls.Config → blocks_of (after_heard left h (heard.Device (device_heard.Config config))).online ≡ []
+  IsAskedConfig left = action_for left h.online ≡ actions.Device calls.Config → blocks_of (host_after_at left h (heard.Device (device_heard.Config config))).online ≡ []
 
   config_by : (left : List HostCommand) (b : Bool) → (h.online.count == 0) ≡ b → IsAskedConfig left
   config_by [] b e is = absurd (cc)

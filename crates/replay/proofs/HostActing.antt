@@ -1,9 +1,8 @@
 -- The next action of the host in a kept machine is allowed: the blocks that a request plugs weren't plugged, and those
 -- that are put online are offline and in the driver's hand.
-use Rattle.std.proofs.Common.{◌≡◌, ℕ, zero, suc, ◌+◌, ◌-◌, ◌*◌, ◌%◌, ◌<◌, ◌≤◌, ◌==◌, ◌&&◌, ◌||◌, eqb, nat_le, nat_lt, Bool, true, false, not, if◌then◌else◌, List, [], ◌∷◌, length, inl, inr, refl, ap, ◌∙◌, arith, None, Some, Option}
+use Rattle.std.proofs.Common.{◌≡◌, ℕ, zero, suc, ◌+◌, ◌-◌, ◌*◌, ◌<◌, ◌≤◌, ◌||◌, eqb, nat_lt, Bool, true, false, not, if◌then◌else◌, List, [], ◌∷◌, length, inl, inr, refl, ap, ◌∙◌, arith, None, Some, Option}
 use Rattle.std.specs.List.{AllByRecursion, list_all, range_with_len}
 use Rattle.std.proofs.lemmas.Bool.{and_parts, eqb-false, or_right}
-use Rattle.std.proofs.lemmas.Bool.Decides.{nat_tests}
 use Rattle.std.proofs.lemmas.Nat.{mul-le}
 use mathlib.Core.Logic.{dite}
 use native.Mathlib.Decide.{dec_lt, ℕ_discrete}
@@ -14,12 +13,13 @@ use Rattle.evac_model.specs.declared.device.Response.TheVariants.{Ack, Nack, Bus
 use Rattle.evac_model.specs.declared.host.HostCommand.{HostCommand}
 use Rattle.evac_model.specs.declared.host.HostCommand.TheVariants as commands
 use Rattle.evac_model.specs.declared.scenario.Scenario.{Scenario}
-use Rattle.evac_model.specs.Geometry.{Sizes, frame_count, first_frame, block_bytes, address}
+use Rattle.evac_model.specs.Geometry.{Sizes, frame_count, first_frame, block_bytes}
 use Rattle.evac_model.specs.DeviceAnswer.{DeviceState, block_at, is_good_range, are_unplugged, request_in, device_answer, plug_answer}
 use Rattle.evac_model.specs.HostCommands.{BlockRange, no_blocks, answer_to, blocks_of, plugged_by}
 use Rattle.evac_model.specs.Numbers.{is_in}
 use Rattle.evac_model.specs.Scenarios.{IsHostCommand, IsRunnable}
 use Rattle.evac_model.specs.SpaceJournal.{is_frame_of}
+use Rattle.evac_model.proofs.Bounds.{good_within}
 use Rattle.evac_model.proofs.Numbers.{is_in-numbers_where}
 use Rattle.evac_model.proofs.Ranges.{between_inside}
 use Rattle.core_state.specs.HandOvers.{MayHandOver}
@@ -67,12 +67,6 @@ pub record ArePluggable (s : Sizes) (d : DeviceState) (r : BlockRange) : Type 0 
   pub inside : r.first + r.count ≤ s.managed
   pub unplugged : are_unplugged d.plugged r.first r.count ≡ true
 
--- a good range lies in the region
-good_inside : (s : Sizes) (addr count : ℕ) → is_good_range s addr count ≡ true → block_at s addr + count ≤ s.managed
-good_inside s addr count good =
-    let last : nat_le (block_at s addr + count) s.managed ≡ true =
-    (and_parts (nat_le (address s 0) addr && (addr - address s 0) % block_bytes s == 0 && not (count == 0)) (nat_le (block_at s addr + count) s.managed) good).1 in grind (arith, nat_tests)
-
 -- a PLUG is acknowledged only where all its blocks aren't plugged
 acknowledged : (good few free busy : Bool) (state : ℕ) → (if not good then Error else if few then Nack else if not free then Error else if busy then Busy else Ack 0) ≡ Ack state → free ≡ true
 acknowledged false few free busy state is = absurd (cc)
@@ -84,7 +78,7 @@ module _ (s : Sizes) (d : DeviceState) where
   range_plugged : (addr count state : ℕ) → plug_answer s d false addr count ≡ Ack state → (good : Bool) → is_good_range s addr count ≡ good
       → 1 ≤ (if good then record { first = block_at s addr; count = count } else no_blocks).count → ArePluggable s d (if good then record { first = block_at s addr; count = count } else no_blocks)
   range_plugged addr count state is true at some = record {
-    inside = good_inside s addr count at;
+    inside = good_within s addr count at;
     unplugged = acknowledged (is_good_range s addr count) (nat_lt d.requested ((length d.plugged + count) * block_bytes s)) (are_unplugged d.plugged (block_at s addr) count) (d.migrating || false) state is;
   }
   range_plugged addr count state is false at some = absurd (omega arith)

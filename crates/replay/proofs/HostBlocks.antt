@@ -1,6 +1,7 @@
 -- The blocks that the driver is to put online, behind what the host hears of its action.
-use Rattle.std.proofs.Common.{◌≡◌, ℕ, zero, suc, ◌+◌, ◌-◌, ◌≤◌, ◌==◌, Bool, true, false, not, ◌&&◌, ◌||◌, if◌then◌else◌, List, [], ◌∷◌, refl, sym, ap, ◌∙◌, arith, inl, inr, Some}
+use Rattle.std.proofs.Common.{◌≡◌, ℕ, suc, ◌+◌, ◌-◌, ◌≤◌, ◌==◌, Bool, true, false, not, ◌&&◌, if◌then◌else◌, List, [], ◌∷◌, refl, sym, ap, ◌∙◌, arith, inl, inr, Some}
 use Rattle.std.specs.List.{range_with_len}
+use Rattle.std.proofs.Math.Bool.{or-false, and-false, and-true}
 use Rattle.std.proofs.lemmas.Bool.{eqb-true, eqb-false, eq-eqb, ne_eqb, cases_order, cases_lt}
 use Rattle.evac_model.specs.declared.device.Config.{Config}
 use Rattle.evac_model.specs.declared.device.Response.{Response}
@@ -18,7 +19,7 @@ use Rattle.core_actors.specs.declared.action.DeviceHeard.TheVariants as device_h
 use Rattle.core_actors.specs.declared.action.Heard.{Heard}
 use Rattle.core_actors.specs.declared.action.Heard.TheVariants as heard
 use Rattle.core_actors.specs.declared.action.SpaceCall.TheVariants.{Online}
-use Rattle.core_actors.specs.Hosts.{HostState, host_action, action_for, device_call, host_after, after_heard, command_ended, with_result, result_in, result_now, plugged_in, but_first}
+use Rattle.core_actors.specs.Hosts.{HostState, host_action, action_for, device_call, host_after, host_after_at, command_ended, with_result, result_in, result_now, plugged_in, but_first}
 use Rattle.evac_model.proofs.Members.{is_in-range_with_len}
 
 -- a host that asks the device for its first command: no blocks are to be put online
@@ -34,10 +35,6 @@ pub record IsPutting (h : HostState) (b : BlockNo) : Type 0 where
   pub command : HostCommand
   pub rest : List HostCommand
   pub left : h.left ≡ command ∷ rest
-
-some_number : (n : ℕ) → (n ≡ 0 → ⊥) → 1 ≤ n
-some_number zero other = absurd (other refl)
-some_number (suc n) other = omega arith
 
 -- ---- which action is the next
 
@@ -58,7 +55,7 @@ asks c d n first false is e = absurd (cc)
 
 puts : (c : HostCommand) (n first : ℕ) (block : BlockNo) (b : Bool) → (n == 0) ≡ b → (if b then actions.Device (device_call c) else actions.Space (Online (record { 0 = first }))) ≡ actions.Space (Online block) → (1 ≤ n) × (block.0 ≡ first)
 puts c n first block true is e = absurd (cc)
-puts c n first block false is e = (some_number n (eqb-false n 0 is), same_block_no first block e)
+puts c n first block false is e = (let other = eqb-false n 0 is in omega arith, same_block_no first block e)
 
 module _ (h : HostState) where
   asking_request : (left : List HostCommand) → h.left ≡ left → (bytes : List ℕ) → action_for left h.online ≡ actions.Device (device_calls.Request bytes) → IsAsking h (commands.Request bytes)
@@ -104,7 +101,7 @@ module _ (h : HostState) where
 
   heard_asking : (c : HostCommand) (x : Heard) → IsAsking h c → host_after h x ≡ with_result h (result_in x) (plugged_in h.sizes c (result_in x))
   heard_asking c x q =
-      ap (λ (l : List HostCommand). after_heard l h x) q.left
+      ap (λ (l : List HostCommand). host_after_at l h x) q.left
       ∙ ap (λ (t : Bool). if t then with_result h (result_in x) (plugged_in h.sizes c (result_in x)) else with_result h (result_now h) (but_first h.online)) (eq-eqb h.online.count 0 q.none)
 
   -- before it asks there are none
@@ -125,7 +122,7 @@ module _ (h : HostState) where
   pub blocks_put : (b : BlockNo) (x : Heard) → IsPutting h b → blocks_of (host_after h x).online ≡ blocks_of (but_first h.online)
   blocks_put b x q =
       let other : (h.online.count == 0) ≡ false = ne_eqb h.online.count 0 (λ e. let some = q.some in omega arith) in
-      ap (λ (l : List HostCommand). blocks_of (after_heard l h x).online) q.left
+      ap (λ (l : List HostCommand). blocks_of (host_after_at l h x).online) q.left
       ∙ ap (λ (t : Bool). blocks_of (if t then with_result h (result_in x) (plugged_in h.sizes q.command (result_in x)) else with_result h (result_now h) (but_first h.online)).online) other
       ∙ blocks_with (result_now h) (but_first h.online)
 
@@ -133,11 +130,7 @@ module _ (h : HostState) where
 
 -- the first block alone
 pub is_in-one : (first b : ℕ) → is_in b (range_with_len first 1) ≡ (b == first)
-is_in-one first b = only (b == first)
-  where
-    only : (t : Bool) → (t || false) ≡ t
-    only true = refl
-    only false = refl
+is_in-one first b = or-false (b == first)
 
 pub is_in-but_first : (r : BlockRange) (b : ℕ) → 1 ≤ r.count → is_in b (blocks_of (but_first r)) ≡ (is_in b (blocks_of r) && not (is_in b (range_with_len r.first 1)))
 is_in-but_first r b some =
@@ -146,18 +139,10 @@ is_in-but_first r b some =
     ∙ sym (ap (λ (t : Bool). t && not (is_in b (range_with_len r.first 1))) (is_in-range_with_len b r.first r.count)))
   where
     at_end : (t u : Bool) → u ≡ true → t && not u ≡ false
-    at_end t u e = ap (λ (z : Bool). t && not z) e ∙ and_none t
-      where
-        and_none : (t : Bool) → (t && false) ≡ false
-        and_none true = refl
-        and_none false = refl
+    at_end t u e = ap (λ (z : Bool). t && not z) e ∙ and-false t
 
     inner : (t u v : Bool) → t ≡ v → u ≡ false → t ≡ (v && not u)
-    inner t u v e f = e ∙ sym (ap (λ (z : Bool). v && not z) f ∙ and_all v)
-      where
-        and_all : (v : Bool) → (v && true) ≡ v
-        and_all true = refl
-        and_all false = refl
+    inner t u v e f = e ∙ sym (ap (λ (z : Bool). v && not z) f ∙ and-true v)
 
     by_place : is_between (suc r.first) (suc r.first + (r.count - 1)) b ≡ (is_between r.first (r.first + r.count) b && not (is_in b (range_with_len r.first 1)))
     by_place = elim (cases_order b r.first) [

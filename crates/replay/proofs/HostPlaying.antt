@@ -18,7 +18,7 @@ use Rattle.replay.specs.Keeping.{IsKept}
 use Rattle.replay.specs.Quiet.{IsQuiet}
 use Rattle.replay.specs.Runs.{setting}
 use Rattle.replay.proofs.HostActing.{host_may_act}
-use Rattle.replay.proofs.Kept.{turns_are_kept}
+use Rattle.replay.proofs.MachineKept.{turns_are_kept}
 use Rattle.replay.proofs.Playing.{quiet_handed, free_there}
 
 -- ---- an action gives nobody the right to move

@@ -13,7 +13,6 @@ use Rattle.evac_model.specs.declared.host.HostResult.TheVariants as results
 use Rattle.evac_model.specs.declared.names.Kind.{Kind}
 use Rattle.evac_model.specs.declared.names.PageNo.{PageNo}
 use Rattle.evac_model.specs.declared.scenario.Actor.{Actor}
-use Rattle.evac_model.specs.declared.scenario.Actor.TheVariants.{Owner, Host, Scanner}
 use Rattle.evac_model.specs.declared.scenario.Scenario.{Scenario}
 use Rattle.evac_model.specs.declared.space.SpaceAction.{SpaceAction}
 use Rattle.evac_model.specs.declared.space.SpaceAction.TheVariants as space
@@ -31,8 +30,8 @@ use Rattle.core_actors.specs.declared.action.DeviceHeard.TheVariants as device_h
 use Rattle.core_actors.specs.declared.action.Heard.{Heard}
 use Rattle.core_actors.specs.declared.action.Heard.TheVariants as heard
 use Rattle.core_actors.specs.declared.action.SpaceCall.TheVariants.{Lease, Return, Online}
-use Rattle.core_actors.specs.Hosts.{HostState, host_ended, host_action, action_for, device_call, has_none, host_after, line_after, with_result, line_with, command_ended, but_first, to_ask, plugged_in, IsHostUnderWay}
-use Rattle.core_actors.specs.Owners.{OwnerState, owner_ended, next_action}
+use Rattle.core_actors.specs.Hosts.{HostState, action_for, device_call, has_none, host_after, line_after, with_result, line_with, command_ended, but_first, to_ask, plugged_in, IsHostUnderWay}
+use Rattle.core_actors.specs.Owners.{OwnerState, next_action}
 use Rattle.core_actors.proofs.HostCounts.{plugged_in_within}
 use Rattle.core_actors.proofs.HostPlaces.{online_next, state_heard, line_heard_is}
 use Rattle.mem_device.proofs.Journals.{device_after-push}
@@ -42,6 +41,7 @@ use Rattle.replay.specs.Keeping.{IsKept}
 use Rattle.replay.specs.Machine.{Machine, Scene, free_seat, unplugged_seat, handed_frames, handed_blocks, device_at, line_list, owner_of, scene_of, with_scene, after_lease, after_action, host_scene_of, with_host_scene, after_host_action, after_turn}
 use Rattle.replay.specs.Runs.{setting, machine_at_start}
 use Rattle.replay.proofs.MadeLists.{own_push, other_push}
+use Rattle.replay.proofs.TurnCases.{turn_cases}
 
 -- ---- the host once its command has a result
 
@@ -259,21 +259,10 @@ module _ (s : Scenario) (m : Machine) (p : IsHostKept s m) (i : ℕ) where
 
 -- ---- a turn
 
-owner_turn : (s : Scenario) (m : Machine) (i : ℕ) → IsHostKept s m → (b : Bool)
-    → IsHostKept s (if b then m else with_scene m (suc i) (after_action (setting s) (suc i) (free_seat (length m.owners)) (scene_of m (suc i)) (next_action (owner_of m.owners (suc i)))))
-owner_turn s m i p true = p
-owner_turn s m i p false = by_action s m p i (next_action (owner_of m.owners (suc i)))
-
-host_turn : (s : Scenario) (m : Machine) → IsHostKept s m → (b : Bool) → host_ended m.host ≡ b
-    → IsHostKept s (if b then m else with_host_scene m (after_host_action s.geometry (free_seat (length m.owners)) (unplugged_seat (length m.owners)) (host_scene_of m) (host_action m.host)))
-host_turn s m p true ended = p
-host_turn s m p false going = action_kept s m.snapshot m.owners m.journal m.lines m.device m.host.sizes m.host.number m.host.left m.host.result m.host.online.first m.host.online.count going p
-
 pub host_kept : (s : Scenario) (m : Machine) (actor : Actor) → IsRunnable s → IsKept s m → IsHostKept s (after_turn (setting s) m actor)
-host_kept s m (Owner zero) r p = p.host
-host_kept s m (Owner (suc i)) r p = owner_turn s m i p.host (owner_ended (owner_of m.owners (suc i)))
-host_kept s m Host r p = host_turn s m p.host (host_ended m.host) refl
-host_kept s m Scanner r p = p.host
+host_kept s m actor r p = turn_cases (setting s) m (IsHostKept s) p.host
+    (λ i below going. by_action s m p.host i (next_action (owner_of m.owners (suc i))))
+    (λ going. action_kept s m.snapshot m.owners m.journal m.lines m.device m.host.sizes m.host.number m.host.left m.host.result m.host.online.first m.host.online.count going p.host) actor
 
 -- ---- the start
 

@@ -1,11 +1,9 @@
 -- The tickets of a view's entries rise, before and after each of its steps.
-use Rattle.std.proofs.Common.{◌≡◌, ℕ, eqb, cond, Bool, true, false, ◌+◌, ◌<◌, ◌≤◌, List, [], ◌∷◌, ◌++◌, sym, ap, ◌∙◌, subst, arith, Option, Some, None}
+use Rattle.std.proofs.Common.{◌≡◌, ℕ, ◌+◌, ◌<◌, ◌≤◌, List, [], ◌∷◌, ◌++◌, sym, ap, ◌∙◌, subst, arith, Option, Some, None}
 use Rattle.std.specs.List.{AllByRecursion}
 use Rattle.std.proofs.lemmas.Option.{same_Some, none-some}
-use Rattle.evac_model.specs.declared.names.PageNo.{PageNo}
 use Rattle.evac_model.specs.declared.entry.Entry.{Entry}
 use Rattle.evac_model.proofs.Lists.{all_push, all_weaker}
-use Rattle.evac_words.specs.Word.{taken_bit}
 use Rattle.core_state.specs.declared.held.Held.{Held}
 use Rattle.core_state.specs.declared.keeper.Keeper.{Keeper}
 use Rattle.core_state.specs.declared.opening.Opening.{Opening}
@@ -15,9 +13,10 @@ use Rattle.core_state.specs.declared.step.Step.TheVariants.{Take, Draw, Load, St
 use Rattle.core_state.specs.declared.view.View.{View}
 use Rattle.core_state.specs.Pages.{number_or}
 use Rattle.core_state.specs.Parts.{Bounds}
-use Rattle.core_state.specs.Steps.{newly_held, held_after_take, with_ticket, held_ticket, entry_of, MayEnd, Allowed, view_after, after_draw, after_release}
+use Rattle.core_state.specs.Steps.{with_ticket, held_ticket, entry_of, MayEnd, Allowed, view_after, after_draw, after_release}
 use Rattle.core_state.specs.Stepped.{word_found}
 use Rattle.core_state.specs.Views.{Has}
+use Rattle.core_state.proofs.TicketSteps.{undrawn-take}
 use Rattle.core_state.proofs.Holding.{for_some, some_is, held_alike-load, held_alike-store}
 use Rattle.replay.specs.Keeping.{AreRising, IsInOrder}
 
@@ -37,12 +36,6 @@ rising_push [] e rising below = (tt, tt)
 rising_push (x ∷ xs) e rising below = (all_push (λ (y : Entry). x.ticket < y.ticket) xs rising.0 e below.0, rising_push xs e rising.1 below.1)
 
 -- ---- the ticket held after a step
-
-taken_undrawn : (cells : ℕ) (page : PageNo) (found : ℕ) (h : Held) (t : ℕ) → held_after_take cells page found ≡ Some h → h.ticket ≡ Some t → ⊥
-taken_undrawn cells page found h t is ticket = by_bit (eqb (taken_bit found) 0) is where
-  by_bit : (b : Bool) → cond b (Some (newly_held cells page found)) None ≡ Some h → ⊥
-  by_bit true is = none-some t (ap (λ (x : Held). x.ticket) (same_Some (newly_held cells page found) h is) ∙ ticket)
-  by_bit false is = none-some h is
 
 ticket_drawn : (m : Option Held) (found : ℕ) (h : Held) (t : ℕ) → with_ticket m found ≡ Some h → h.ticket ≡ Some t → found ≡ t
 ticket_drawn None found h t is ticket = absurd (none-some h is)
@@ -73,7 +66,7 @@ module _ (o : Opening) (words : List ℕ) (v : View) (r : IsInOrder v) where
   step_in_order k views seat has b (Take page) may = record {
     rising = r.rising;
     seen = r.seen;
-    drawn = λ h t is ticket. absurd (taken_undrawn v.cells page _ h t is ticket);
+    drawn = λ h t is ticket. absurd (undrawn-take v.cells page _ h t is ticket);
   }
   step_in_order k views seat has b Draw may = draw_in_order _ (b.seen_low seat v has)
   step_in_order k views seat has b (Load cell) may = record {

@@ -1,5 +1,5 @@
 -- What a machine leaves whose owners have all ended.
-use Rattle.std.proofs.Common.{◌≡◌, ℕ, ◌<◌, cond, eqb, Bool, true, false, List, [], ◌∷◌, refl, ap, sym, subst, arith, Option, Some, None, IsSome}
+use Rattle.std.proofs.Common.{◌≡◌, ℕ, ◌<◌, cond, eqb, Bool, true, false, List, [], ◌∷◌, refl, ap, sym, subst, arith, Option, Some, IsSome}
 use Rattle.std.specs.List.{slice_get, count_by}
 use Rattle.std.proofs.lemmas.Bool.{eqb-true}
 use mathlib.Core.Logic.{dite}
@@ -19,6 +19,7 @@ use Rattle.core_state.specs.Pages.{entry_with}
 use Rattle.core_state.specs.Frames.{all_entry_words}
 use Rattle.core_state.specs.Histories.{AllLetGo}
 use Rattle.core_state.proofs.Cells.{at_entry}
+use Rattle.core_state.proofs.Found.{entry_at-found}
 use Rattle.core_state.proofs.Frames.{maps_to-one}
 use Rattle.core_state.proofs.Lists.{sum_by_member, member_le_sum_by}
 use Rattle.replay.specs.Machine.{Machine, after_turn, after_turns}
@@ -26,8 +27,7 @@ use Rattle.replay.specs.Keeping.{IsKept}
 use Rattle.replay.specs.Runs.{opening, setting, AllEnded}
 use Rattle.replay.specs.Shown.{MapsInside}
 use Rattle.replay.proofs.EndedOwners.{let_go}
-use Rattle.replay.proofs.Kept.{turns_are_kept}
-use Rattle.replay.proofs.Members.{member_found}
+use Rattle.replay.proofs.MachineKept.{turns_are_kept}
 
 -- ---- turns keep the machine
 
@@ -46,19 +46,16 @@ has_ticket t es some =
     let r = sum_by_member (λ (e : Entry). cond {A = ℕ} (eqb e.ticket t) 1 0) es some in
     (r.0, r.1, r.2, eqb-true r.1.ticket t (one_is_so (eqb r.1.ticket t) r.3))
 
-undrawn : (t : ℕ) (h : Option Held) → h ≡ None → drawn_as t h ≡ 0
-undrawn t h e = ap (λ (x : Option Held). drawn_as t x) e
-
 some_there : (m : Option Entry) (e : Entry) → m ≡ Some e → IsSome m
 some_there m e is = subst (λ (x : Option Entry). IsSome x) (sym is) refl
 
 pub has_entry : (views : List View) (t : ℕ) → AllLetGo views → uses t views ≡ 1 → IsSome (entry_with t views)
 has_entry views t go once =
     let r = sum_by_member (λ (v : View). uses_of t v) views (omega arith) in
-    let none = undrawn t r.1.held (go r.0 r.1 r.2) in
+    let none : drawn_as t r.1.held ≡ 0 = ap (λ (x : Option Held). drawn_as t x) (go r.0 r.1 r.2) in
     let more : 0 < uses_of t r.1 = r.3 in
     let e = has_ticket t r.1.entries (omega arith) in
-    some_there (entry_with t views) e.1 (member_found t views r.0 r.1 e.0 e.1 r.2 e.2 e.3 (omega arith))
+    some_there (entry_with t views) e.1 (entry_at-found t views r.0 r.1 e.0 e.1 r.2 e.2 e.3 (omega arith))
 
 pub each_ticket : (s : Scenario) (m : Machine) → IsKept s m → AllEnded m.owners → (t : ℕ) → t < next_ticket_of m.snapshot.words → IsSome (entry_with t m.snapshot.views)
 each_ticket s m kept ended t lt = has_entry m.snapshot.views t (let_go s m kept ended) (kept.seats.sound.tickets.each_once t (omega arith) lt)

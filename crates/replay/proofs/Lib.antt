@@ -10,6 +10,7 @@ pub mod MovesInOrder
 pub mod NextActions
 pub mod Storable
 pub mod OwnersStay
+pub mod TurnCases
 pub mod SpaceNow
 pub mod OwnerSeats
 pub mod IdleSeats
@@ -24,6 +25,7 @@ pub mod PlugFrames
 pub mod OnlineFrames
 pub mod HostFrames
 pub mod FramesAfter
+pub mod FrameHandOvers
 pub mod FrameSteps
 pub mod FrameMoves
 pub mod FrameLeases
@@ -40,7 +42,7 @@ pub mod HostRuns
 pub mod CallTurns
 pub mod Starts
 pub mod StartFrames
-pub mod Kept
+pub mod MachineKept
 pub mod Turns
 pub mod ActionsLeft
 pub mod Rounds

@@ -1,17 +1,10 @@
--- Entries of views found by their tickets, and members of lists.
-use Rattle.std.proofs.Common.{◌≡◌, ◌≢◌, ℕ, eqb, cond, Bool, eq-eqb, ne_eqb, zero, suc, ◌+◌, ◌-◌, ◌<◌, ◌≤◌, List, [], ◌∷◌, length, get_or, filter, sym, refl, ap, ◌∙◌, subst, arith, Option, Some, None}
-use Rattle.std.specs.List.{slice_get, count_by, enumerate_from, AllByRecursion}
-use Rattle.std.proofs.lemmas.List.Sums.{sum_by-cons}
+-- Members of lists, and the entries of one caller.
+use Rattle.std.proofs.Common.{◌≡◌, ◌≢◌, ℕ, eqb, cond, Bool, eq-eqb, ne_eqb, zero, suc, ◌+◌, ◌-◌, ◌<◌, ◌≤◌, List, [], ◌∷◌, length, get_or, filter, sym, refl, ap, ◌∙◌, subst, arith, Some}
+use Rattle.std.specs.List.{slice_get, enumerate_from, AllByRecursion}
 use Rattle.std.proofs.lemmas.Option.{same_Some, none-some}
 use mathlib.Core.Logic.{dite}
 use native.Mathlib.Decide.{ℕ_discrete}
 use Rattle.evac_model.specs.declared.entry.Entry.{Entry}
-use Rattle.core_state.specs.declared.view.View.{View}
-use Rattle.core_state.specs.Views.{Has}
-use Rattle.core_state.specs.Parts.{uses, uses_of}
-use Rattle.core_state.specs.Pages.{or_else, entry_in, entry_with}
-use Rattle.core_state.proofs.Lists.{member_le_sum_by}
-use Rattle.core_state.proofs.Entries.{entry_in-none}
 use Rattle.replay.specs.Keeping.{AreRising}
 
 module _ {A : Type 0} where
@@ -38,79 +31,6 @@ module _ {A : Type 0} where
   numbered_at n [] i q a e = absurd (none-some (q, a) e)
   numbered_at n (x ∷ xs) zero q a e = ap (λ (p : ℕ × A). Some p.1) (same_Some (n, x) (q, a) e)
   numbered_at n (x ∷ xs) (suc i) q a e = numbered_at (n + 1) xs i q a e
-
--- ---- an entry that is found is a member, and a member with a ticket used once is found
-
-pub entry_in-member : (t : ℕ) (es : List Entry) (e : Entry) → entry_in t es ≡ Some e → (p : ℕ) × (slice_get es p ≡ Some e)
-entry_in-member t [] e q = absurd (none-some e q)
-entry_in-member t (x ∷ xs) e q = dite (ℕ_discrete x.ticket t)
-    (λ s. (0, sym (ap (λ (b : Bool). cond b (Some x) (entry_in t xs)) (eq-eqb x.ticket t s)) ∙ q))
-    (λ ne. let r = entry_in-member t xs e (sym (ap (λ (b : Bool). cond b (Some x) (entry_in t xs)) (ne_eqb x.ticket t ne)) ∙ q) in (suc r.0, r.1))
-
--- some view has the entry at some place
-abbrev pub InSome : List View → Entry → Type 0
-InSome views e = (i : ℕ) × (v : View) × (p : ℕ) × Has views i v × (slice_get v.entries p ≡ Some e)
-
-pub entry_with-member : (t : ℕ) (views : List View) (e : Entry) → entry_with t views ≡ Some e → InSome views e
-entry_with-member t [] e q = absurd (none-some e q)
-entry_with-member t (y ∷ ys) e q = here (entry_in t y.entries) refl q (λ found. entry_with-member t ys e found) where
-  here : (m : Option Entry) → entry_in t y.entries ≡ m → or_else m (entry_with t ys) ≡ Some e → (entry_with t ys ≡ Some e → InSome ys e) → InSome (y ∷ ys) e
-  here None is found later = let r = later found in (suc r.0, r.1, r.2, r.3, r.4)
-  here (Some x) is found later = let r = entry_in-member t y.entries e (is ∙ found) in (0, y, r.0, refl, r.1)
-
--- how many of the entries have the ticket
-abbrev having : ℕ → List Entry → ℕ
-having t es = count_by (λ e. eqb e.ticket t) es
-
-having-cons : (t : ℕ) (x : Entry) (xs : List Entry) → having t (x ∷ xs) ≡ cond {A = ℕ} (eqb x.ticket t) 1 0 + having t xs
-having-cons t x xs = sum_by-cons (λ (y : Entry). cond (eqb y.ticket t) 1 0) x xs
-
-by_first : (a b c : ℕ) → a ≡ b + c → b ≡ 1 → 1 ≤ a
-by_first a b c e one = omega (arith, e, one)
-
-by_rest : (a b c : ℕ) → a ≡ b + c → 1 ≤ c → 1 ≤ a
-by_rest a b c e some = omega (arith, e, some)
-
--- one where the entry has the ticket, else 0
-abbrev has_ticket : ℕ → Entry → ℕ
-has_ticket t x = cond (eqb x.ticket t) 1 0
-
-has_ticket-same : (t : ℕ) (x : Entry) → x.ticket ≡ t → has_ticket t x ≡ 1
-has_ticket-same t x q = ap (λ (b : Bool). cond {A = ℕ} b 1 0) (eq-eqb x.ticket t q)
-
-member_counts : (t : ℕ) (es : List Entry) (p : ℕ) (e : Entry) → slice_get es p ≡ Some e → e.ticket ≡ t → 1 ≤ having t es
-member_counts t [] p e at q = absurd (none-some e at)
-member_counts t (x ∷ xs) zero e at q = by_first (having t (x ∷ xs)) (has_ticket t x) (having t xs) (having-cons t x xs) (has_ticket-same t x (ap (λ (y : Entry). y.ticket) (same_Some x e at) ∙ q))
-member_counts t (x ∷ xs) (suc p) e at q = by_rest (having t (x ∷ xs)) (has_ticket t x) (having t xs) (having-cons t x xs) (member_counts t xs p e at q)
-
-no_more : (a b c : ℕ) → a ≡ b + c → a ≤ 1 → b ≡ 1 → 1 ≤ c → ⊥
-no_more a b c e few one some = omega (arith, e, few, one, some)
-
-fewer : (a b c : ℕ) → a ≡ b + c → a ≤ 1 → c ≤ 1
-fewer a b c e few = omega (arith, e, few)
-
-member_found_in : (t : ℕ) (es : List Entry) (p : ℕ) (e : Entry) → slice_get es p ≡ Some e → e.ticket ≡ t → having t es ≤ 1 → entry_in t es ≡ Some e
-member_found_in t [] p e at q few = absurd (none-some e at)
-member_found_in t (x ∷ xs) zero e at q few = ap (λ (b : Bool). cond b (Some x) (entry_in t xs)) (eq-eqb x.ticket t (ap (λ (y : Entry). y.ticket) (same_Some x e at) ∙ q)) ∙ at
-member_found_in t (x ∷ xs) (suc p) e at q few = dite (ℕ_discrete x.ticket t)
-    (λ same. absurd (no_more (having t (x ∷ xs)) (has_ticket t x) (having t xs) (having-cons t x xs) few (has_ticket-same t x same) (member_counts t xs p e at q)))
-    (λ ne. ap (λ (b : Bool). cond b (Some x) (entry_in t xs)) (ne_eqb x.ticket t ne)
-    ∙ member_found_in t xs p e at q (fewer (having t (x ∷ xs)) (has_ticket t x) (having t xs) (having-cons t x xs) few))
-
-pub member_uses : (t : ℕ) (views : List View) (i : ℕ) (v : View) (p : ℕ) (e : Entry) → Has views i v → slice_get v.entries p ≡ Some e → e.ticket ≡ t → 1 ≤ uses t views
-member_uses t views i v p e at is q = let a = member_le_sum_by (λ (x : View). uses_of t x) views i v at in let b = member_counts t v.entries p e is q in omega arith
-
-pub member_found : (t : ℕ) (views : List View) (i : ℕ) (v : View) (p : ℕ) (e : Entry) → Has views i v → slice_get v.entries p ≡ Some e → e.ticket ≡ t → uses t views ≤ 1 → entry_with t views ≡ Some e
-member_found t [] i v p e at is q few = absurd (none-some v at)
-member_found t (y ∷ ys) zero v p e at is q few =
-    let s = sum_by-cons (λ (x : View). uses_of t x) y ys in
-    let same : y ≡ v = same_Some y v at in
-    let is' : slice_get y.entries p ≡ Some e = ap (λ (z : View). slice_get z.entries p) same ∙ is in
-    ap (λ m. or_else m (entry_with t ys)) (member_found_in t y.entries p e is' q (omega arith))
-member_found t (y ∷ ys) (suc i) v p e at is q few =
-    let s = sum_by-cons (λ (x : View). uses_of t x) y ys in
-    let one = member_uses t ys i v p e at is q in
-    ap (λ m. or_else m (entry_with t ys)) (entry_in-none t y.entries (omega arith)) ∙ member_found t ys i v p e at is q (omega arith)
 
 -- ---- the entries of one caller, out of all entries in ticket order
 

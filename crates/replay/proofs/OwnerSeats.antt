@@ -4,10 +4,9 @@ use Rattle.std.proofs.Common.{◌≡◌, ◌≢◌, ℕ, suc, ◌<◌, false, le
 use Rattle.std.specs.Prelude.{IsSomeAnd}
 use Rattle.std.specs.List.{slice_get}
 use Rattle.std.proofs.lemmas.Bool.{false≢true}
-use Rattle.std.proofs.lemmas.List.{get_or_past}
 use Rattle.std.proofs.lemmas.Option.{none-some}
 use mathlib.Core.Logic.{dite}
-use native.Mathlib.Decide.{ℕ_discrete, dec_lt}
+use native.Mathlib.Decide.{ℕ_discrete}
 use Rattle.evac_model.specs.declared.names.FrameNo.{FrameNo}
 use Rattle.evac_model.specs.declared.names.Kind.{Kind}
 use Rattle.evac_model.specs.declared.scenario.Scenario.{Scenario}
@@ -19,12 +18,13 @@ use Rattle.core_state.specs.declared.hand.HandFrame.{HandFrame}
 use Rattle.core_state.specs.declared.opening.Opening.{Opening}
 use Rattle.core_state.specs.declared.view.View.{View}
 use Rattle.core_state.specs.HandOvers.{IsAtRest, MayHandOver}
-use Rattle.core_state.specs.Views.{Has, IsSeated, view_of, hand_frame}
+use Rattle.core_state.specs.Views.{Has, view_of, hand_frame}
 use Rattle.core_state.proofs.Lists.{within}
 use Rattle.core_state.proofs.Rooms.{seat_has}
+use Rattle.core_moves.proofs.Moves.{in_range as hand_in_range}
 use Rattle.core_actors.specs.declared.action.Action.TheVariants as actions
 use Rattle.core_actors.specs.declared.action.SpaceCall.TheVariants.{Return}
-use Rattle.core_actors.specs.Fits.{frame_in_hand, IsZeroed, HasInHand, Fits, seat_has as owner_seat_has}
+use Rattle.core_actors.specs.Fits.{HasInHand, Fits}
 use Rattle.core_actors.specs.Places.{frame_owed}
 use Rattle.core_actors.specs.Owners.{OwnerState, owner_ended, next_action}
 use Rattle.core_actors.proofs.Allowed.{return_allowed}
@@ -41,12 +41,6 @@ some_of : {A : Type 0} → (m : Option A) → IsSome m → (x : A) × (m ≡ Som
 some_of None p = absurd (false≢true p)
 some_of (Some x) p = (x, refl)
 
--- a frame in hand has a place there
-has_place : (o : Opening) (v : View) (frame : ℕ) (x : HandFrame) → IsSeated o v → hand_frame v frame ≡ Some x → frame < o.frames
-has_place o v frame x seated is = dite (dec_lt frame (length v.hand))
-    (λ lt. let size = seated.hand in omega arith)
-    (λ past. absurd (none-some x (sym (get_or_past v.hand frame None (omega arith)) ∙ is)))
-
 -- where one frame at most is in hand, what is said of it holds of each frame in hand
 of_each : (v : View) (m : Option FrameNo) (P : HandFrame → Type 0) (frame : ℕ) (x : HandFrame) → HasInHand v m P → hand_frame v frame ≡ Some x → P x
 of_each v None P frame x none is = absurd (none-some x (sym (none frame) ∙ is))
@@ -58,7 +52,7 @@ one_handed : (o : Opening) (giver receiver : View) (frame : ℕ) (x : HandFrame)
 one_handed o giver receiver frame x gives takes is = record {
   giver_rests = gives;
   receiver_rests = takes;
-  in_range = let lt = has_place o giver frame x gives.seated is in omega arith;
+  in_range = let lt = hand_in_range o giver frame x gives.seated is in omega arith;
   in_hand = λ f low high. subst (λ (y : Option HandFrame). IsSome y) (sym (ap (λ (k : ℕ). hand_frame giver k) (let e : f ≡ frame = omega arith in e) ∙ is)) refl;
 }
 

@@ -1,5 +1,5 @@
 -- Entries at the places of their tickets.
-use Rattle.std.proofs.Common.{◌≡◌, ℕ, zero, suc, eqb, cond, Bool, ◌+◌, ◌<◌, drop, take, replicate, set, List, [], ◌∷◌, ◌++◌, length, length-set, get_or, get_or-set_same, get_or-set_other, eq-eqb, ne_eqb, Option, Some, None, IsSome, refl, ap, sym, ◌∙◌, arith}
+use Rattle.std.proofs.Common.{◌≡◌, ℕ, zero, suc, cond, Bool, ◌+◌, ◌<◌, drop, take, replicate, List, [], ◌∷◌, ◌++◌, length, length-set, get_or, get_or-set_same, get_or-set_other, eq-eqb, ne_eqb, Option, Some, None, IsSome, refl, ap, sym, ◌∙◌, arith}
 use Rattle.std.specs.List.{slice_get, flat_map}
 use Rattle.std.proofs.lemmas.List.{take-append-le, length-replicate, get_or-replicate}
 use Rattle.std.proofs.lemmas.Option.{none-some}

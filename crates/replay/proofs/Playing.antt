@@ -44,7 +44,7 @@ use Rattle.replay.specs.Quiet.{IsQuiet}
 use Rattle.replay.specs.Runs.{opening, setting, budgets_of, owners_from, machine_at_start}
 use Rattle.replay.specs.Seats.{setting_of, scene, MayAct}
 use Rattle.replay.proofs.Acting.{may_act}
-use Rattle.replay.proofs.Kept.{starts_are_kept, turns_are_kept}
+use Rattle.replay.proofs.MachineKept.{starts_are_kept, turns_are_kept}
 
 -- ---- no right to move
 

@@ -3,9 +3,9 @@
 use Rattle.std.proofs.Common.{◌≡◌, ℕ, zero, suc, ◌+◌, ◌<◌, ◌≤◌, Bool, true, false, List, [], ◌∷◌, ◌++◌, length, map, get_or, refl, sym, subst, ap, ◌∙◌, arith, inl, inr, Option, Some, None}
 use Rattle.std.specs.List.{sum_by, slice_get, range_with_len}
 use Rattle.std.proofs.lemmas.Option.{same_Some, none-some, slice_get-get_or}
+use Rattle.std.proofs.lemmas.Bool.{false_from_ne_true}
 use mathlib.Core.Logic.{dite}
 use native.Mathlib.Decide.{ℕ_discrete, dec_lt}
-use Rattle.evac_model.specs.declared.names.FrameNo.{FrameNo}
 use Rattle.evac_model.specs.declared.names.PageNo.{PageNo}
 use Rattle.evac_model.specs.declared.call.Call.{Call}
 use Rattle.evac_model.specs.declared.scenario.Actor.{Actor}
@@ -79,10 +79,6 @@ held_none size left (Some page) held none h = absurd (omega arith)
 zero_not_one : (n : ℕ) → n ≡ 0 → ¬ (n ≡ 1)
 zero_not_one n z e = omega arith
 
-false_if : (b : Bool) → ¬ (b ≡ true) → b ≡ false
-false_if true n = absurd (n refl)
-false_if false n = refl
-
 module _ (s : Scenario) (m : Machine) (kept : IsKept s m) where
   -- an owner that holds a page goes on with its call
   holder_goes_on : (i : ℕ) (a : OwnerState) → slice_get m.owners i ≡ Some a → 0 < made_holding a → (owner_ended a ≡ false) × (¬ FindsTaken (next_action a) (found_at (setting s) m i a))
@@ -131,7 +127,7 @@ module _ (s : Scenario) (m : Machine) (kept : IsKept s m) where
   going_on : (i : ℕ) (a : OwnerState) → slice_get m.owners i ≡ Some a → 0 < actions_left a → owner_ended a ≡ false
   going_on i a at some =
       let fits = fits_at s m kept i a at in
-      false_if (owner_ended a) (λ ended. let none = (none_left a fits.under_way).1 ended in omega arith)
+      false_from_ne_true (owner_ended a) (λ ended. let none = (none_left a fits.under_way).1 ended in omega arith)
 
 -- ---- the turns of a round
 

@@ -1,16 +1,13 @@
 -- A turn keeps the snapshot sound, each owner's seat as its script has it, and the other seats idle.
-use Rattle.std.proofs.Common.{◌≡◌, ℕ, zero, suc, ◌-◌, ◌<◌, Bool, true, false, if◌then◌else◌, List, [], length, set, inr, refl, sym, ap, ◌∙◌, subst, arith, Option, Some, None}
+use Rattle.std.proofs.Common.{◌≡◌, ℕ, suc, ◌-◌, ◌<◌, false, List, [], length, set, inr, refl, sym, ◌∙◌, subst, arith, Option, Some, None}
 use Rattle.std.specs.List.{slice_get}
-use Rattle.std.proofs.lemmas.List.{get_or_past, set-get_or}
+use Rattle.std.proofs.lemmas.List.{set-get_or}
 use Rattle.std.proofs.lemmas.Option.{slice_get-get_or}
-use mathlib.Core.Logic.{dite}
-use native.Mathlib.Decide.{dec_lt}
 use Rattle.evac_model.specs.declared.call.Call.{Call}
 use Rattle.evac_model.specs.declared.names.FrameNo.{FrameNo}
 use Rattle.evac_model.specs.declared.names.Kind.{Kind}
 use Rattle.evac_model.specs.declared.names.PageNo.{PageNo}
 use Rattle.evac_model.specs.declared.scenario.Actor.{Actor}
-use Rattle.evac_model.specs.declared.scenario.Actor.TheVariants.{Owner, Host, Scanner}
 use Rattle.evac_model.specs.declared.scenario.Scenario.{Scenario}
 use Rattle.evac_model.specs.Scenarios.{IsRunnable}
 use Rattle.evac_model.specs.ScenarioGrammar.{online_of}
@@ -35,23 +32,23 @@ use Rattle.core_actors.specs.declared.action.Heard.TheVariants as heard
 use Rattle.core_actors.specs.declared.action.SpaceCall.TheVariants.{Lease, Return, Online}
 use Rattle.core_actors.specs.Actions.{heard_by}
 use Rattle.core_actors.specs.Fits.{Fits}
-use Rattle.core_actors.specs.Hosts.{host_ended, host_action}
 use Rattle.core_actors.specs.Owners.{OwnerState, owner_at_start, owner_ended, next_action, owner_after}
 use Rattle.core_actors.proofs.Allowed.{next_step_allowed, next_move_allowed, lease_allowed}
 use Rattle.core_actors.proofs.FitSteps.{fits_after_step, fits_after_move, fits_after_lease, fits_after_refusal, fits_after_return}
 use Rattle.replay.specs.FramesOut.{space_now}
 use Rattle.replay.specs.Keeping.{IsInOrder, AreSeatsKept, IsKept}
-use Rattle.replay.specs.Machine.{Scene, Machine, owner_of, scene_of, with_scene, after_lease, after_action, host_scene_of, with_host_scene, after_host_action, after_turn}
+use Rattle.replay.specs.Machine.{Scene, Machine, owner_of, after_lease, after_action, after_turn}
 use Rattle.replay.specs.Runs.{opening, setting}
 use Rattle.replay.proofs.HostSeatsKept.{host_seats_kept}
 use Rattle.replay.proofs.IdleSeats.{idle_gives, idle_takes}
 use Rattle.replay.proofs.InOrder.{step_in_order}
 use Rattle.replay.proofs.MovesInOrder.{hand_in_order, move_in_order}
 use Rattle.core_state.proofs.SeatSteps.{hand_room}
-use Rattle.replay.proofs.OwnerSeats.{free_of, unplugged_of, owner_view, free_view, owner_below, owner_has, owner_fits, seats_apart, free_has, free_idle, lease_in_hand, lease_handed, return_handed}
+use Rattle.replay.proofs.OwnerSeats.{free_of, owner_view, free_view, owner_below, owner_has, owner_fits, seats_apart, free_has, free_idle, lease_in_hand, lease_handed, return_handed}
 use Rattle.replay.proofs.OwnersStay.{stays}
 use Rattle.replay.proofs.SeatsInPlace.{FitsAt, AreInPlace, in_place, kept_from, owner_placed, idle_placed}
 use Rattle.replay.proofs.Storable.{next_step_storable}
+use Rattle.replay.proofs.TurnCases.{turn_cases}
 
 -- ---- an action of an owner
 
@@ -214,24 +211,7 @@ module _ (s : Scenario) (m : Machine) (r : IsRunnable s) (kept : IsKept s m) (i 
 
 -- ---- a turn
 
-going_turn : (s : Scenario) (m : Machine) (k : ℕ) → IsRunnable s → IsKept s m → owner_ended (owner_of m.owners k) ≡ false
-    → AreSeatsKept s (with_scene m k (after_action (setting s) k (free_of m) (scene_of m k) (next_action (owner_of m.owners k))))
-going_turn s m zero r kept going = absurd (cc)
-going_turn s m (suc i) r kept going = dite (dec_lt i (length m.owners))
-    (λ lt. acted_kept s m r kept i (owner_of m.owners (suc i)) (slice_get-get_or m.owners i (owner_at_start 0 0 []) lt) going (suc i - 1) (omega arith))
-    (λ past. let none : owner_ended (owner_of m.owners (suc i)) ≡ true = ap (λ (a : OwnerState). owner_ended a) (get_or_past m.owners i (owner_at_start 0 0 []) (omega arith)) in absurd (cc))
-
-owner_turn : (s : Scenario) (m : Machine) (k : ℕ) → IsRunnable s → IsKept s m → (b : Bool) → owner_ended (owner_of m.owners k) ≡ b
-    → AreSeatsKept s (if b then m else with_scene m k (after_action (setting s) k (free_of m) (scene_of m k) (next_action (owner_of m.owners k))))
-owner_turn s m k r kept true ended = kept.seats
-owner_turn s m k r kept false going = going_turn s m k r kept going
-
-host_turn : (s : Scenario) (m : Machine) → IsRunnable s → IsKept s m → (b : Bool) → host_ended m.host ≡ b
-    → AreSeatsKept s (if b then m else with_host_scene m (after_host_action s.geometry (free_of m) (unplugged_of m) (host_scene_of m) (host_action m.host)))
-host_turn s m r kept true ended = kept.seats
-host_turn s m r kept false going = host_seats_kept s m r kept going
-
 pub seats_kept : (s : Scenario) (m : Machine) (actor : Actor) → IsRunnable s → IsKept s m → AreSeatsKept s (after_turn (setting s) m actor)
-seats_kept s m (Owner k) r kept = owner_turn s m k r kept (owner_ended (owner_of m.owners k)) refl
-seats_kept s m Host r kept = host_turn s m r kept (host_ended m.host) refl
-seats_kept s m Scanner r kept = kept.seats
+seats_kept s m actor r kept = turn_cases (setting s) m (AreSeatsKept s) kept.seats
+    (λ i below going. acted_kept s m r kept i (owner_of m.owners (suc i)) (slice_get-get_or m.owners i (owner_at_start 0 0 []) below) going (suc i - 1) (omega arith))
+    (host_seats_kept s m r kept) actor

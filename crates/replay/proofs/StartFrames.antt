@@ -3,7 +3,7 @@
 use Rattle.std.proofs.Common.{◌≡◌, ◌≢◌, ◌↔◌, ℕ, zero, suc, ◌+◌, ◌-◌, ◌*◌, ◌<◌, ◌≤◌, eqb, nat_eq, Bool, true, false, not, List, [], ◌∷◌, ◌++◌, length, map, set, get_or, get_or-set_other, refl, sym, ap, ◌∙◌, subst, eq-eqb, ne_eqb, mul-le-mul_right, arith, Option, Some, None, IsSome}
 use Rattle.std.proofs.Math.Bool.{or-false}
 use Rattle.std.proofs.Math.Seq.{get_or-append_right}
-use Rattle.std.proofs.lemmas.Bool.{false≢true, false_from_ne_true, cond-true, cond-false, or_left, or_right}
+use Rattle.std.proofs.lemmas.Bool.{false≢true, eqb-false, false_from_ne_true, cond-true, cond-false, or_left, or_right}
 use Rattle.std.proofs.lemmas.List.{length-replicate, get_or-replicate, get_or_append_left}
 use Rattle.std.proofs.lemmas.Map.Keys.{IsDistinct-head, IsDistinct-tail}
 use Rattle.std.proofs.lemmas.Option.{none-some}
@@ -20,6 +20,7 @@ use Rattle.evac_model.specs.Numbers.{is_in, is_between}
 use Rattle.evac_model.specs.Scenarios.{IsRunnable}
 use Rattle.evac_model.specs.SpaceJournal.{out_for, is_frame_in, out_at_start}
 use Rattle.evac_model.specs.StartPages.{IsStartPage}
+use Rattle.evac_model.proofs.Lists.{get_or-replicate_same}
 use Rattle.evac_model.proofs.Numbers.{numbers_agree}
 use Rattle.evac_model.proofs.Ranges.{between_inside, between_below, between_above}
 use Rattle.evac_words.specs.Word.{mapped_bit, frame_of}
@@ -39,7 +40,7 @@ use Rattle.space.proofs.Opens.{numbers_between, out_at_place}
 use Rattle.replay.specs.FramesOut.{HasFrame, space_now, unplugged_now, AreFramesPlaced}
 use Rattle.replay.specs.Machine.{Machine, free_seat, unplugged_seat}
 use Rattle.replay.specs.Runs.{budgets_of, machine_at_start}
-use Rattle.replay.proofs.Starts.{same_item, none_there, length-owners_from, length-owner_views}
+use Rattle.replay.proofs.Starts.{none_there, length-owners_from, length-owner_views}
 
 -- ---- a place without a frame, and one with
 
@@ -54,9 +55,6 @@ none_put : {A : Type 0} (l : List (Option A)) (k : ℕ) → get_or (set l k None
 none_put [] k = refl
 none_put (x ∷ xs) zero = refl
 none_put (x ∷ xs) (suc k) = none_put xs k
-
-apart_from : (f g : ℕ) → nat_eq f g ≡ false → f ≢ g
-apart_from f g h e = absurd (let t : nat_eq f g ≡ true = eq-eqb f g e in cc)
 
 module _ (s : Sizes) where
   -- ---- the hands
@@ -148,7 +146,7 @@ module _ (s : Sizes) where
   -- a frame that no start page has
   out_unnamed : (ps : List StartPage) (f : ℕ) → AllByRecursion (λ y. nat_eq f y ≡ false) (map (λ p. p.frame.0) ps) → out_at_start ps f ≡ None
   out_unnamed [] f apart = refl
-  out_unnamed (p ∷ ps) f apart = cond-false (eqb p.frame.0 f) _ _ (ne_eqb p.frame.0 f (λ e. apart_from f p.frame.0 apart.0 (sym e))) ∙ out_unnamed ps f apart.1
+  out_unnamed (p ∷ ps) f apart = cond-false (eqb p.frame.0 f) _ _ (ne_eqb p.frame.0 f (λ e. eqb-false f p.frame.0 apart.0 (sym e))) ∙ out_unnamed ps f apart.1
 
   record IsMappedOut (ps : List StartPage) (w page : ℕ) : Type 0 where
     pub low : frame_of w < frame_count s
@@ -158,7 +156,7 @@ module _ (s : Sizes) where
     mapped_out : (ps : List StartPage) (page : ℕ) → AllByRecursion (IsStartPage s) ps → IsDistinct nat_eq (map (λ p. p.frame.0) ps)
         → mapped_bit (entry_word_of (opening_words s ps) page) ≡ 1 → IsMappedOut ps (entry_word_of (opening_words s ps) page) page
     mapped_out [] page each frames mapped = absurd (
-        let zero_word : entry_word_of (opening_words s []) page ≡ 0 = same_item (table_length s.pages (frame_count s) s.cells) (entry_index page) 0 in
+        let zero_word : entry_word_of (opening_words s []) page ≡ 0 = get_or-replicate_same (table_length s.pages (frame_count s) s.cells) (entry_index page) 0 in
         let bit = ap (λ (w : ℕ). mapped_bit w) zero_word in omega arith)
     mapped_out (p ∷ ps) page each frames mapped = dite (ℕ_discrete page p.page.0)
         (λ e.
@@ -221,9 +219,6 @@ module _ (s : Scenario) (r : IsRunnable s) where
   driver_empty : (frame : ℕ) → ¬ HasFrame m 0 frame
   driver_empty frame = nowhere _ (none_there (frame_count s.geometry) frame)
 
-  scanner_empty : (frame : ℕ) → hand_frame (view_of m.snapshot.views (length m.owners + 1)) frame ≡ None
-  scanner_empty frame = ap (λ (v : View). hand_frame v frame) (last_at (length m.owners + 1) 0 (let n = many in omega arith)) ∙ none_there (frame_count s.geometry) frame
-
   owner_empty : (i frame : ℕ) → i < length s.owners → hand_frame (view_of m.snapshot.views (suc i)) frame ≡ None
   owner_empty i frame lt = ap (λ (l : List (Option HandFrame)). get_or l frame None) (owner_hand s.geometry 1 s.owners last i lt) ∙ none_there (frame_count s.geometry) frame
 
@@ -253,7 +248,7 @@ module _ (s : Scenario) (r : IsRunnable s) where
         ((λ is. off.1 (at.0 is)), (λ yes. at.1 (off.0 yes))));
     driver = λ frame low. ((λ has. absurd (driver_empty frame has)), (λ none. absurd (false≢true none)));
     offline = λ block. sym (or-false (is_in block (unplugged_now s m)) ∙ ap (λ (l : List ℕ). is_in block l) unplugged_are);
-    scanner = scanner_empty;
+    scanner = λ frame. ap (λ (v : View). hand_frame v frame) (last_at (length m.owners + 1) 0 (let n = many in omega arith)) ∙ none_there (frame_count s.geometry) frame;
     mapped = λ page low mapped.
         let p = mapped_out s.geometry r.limits s.start page r.start.each r.start.frames mapped in
         out_at_place s.geometry s.start (frame_of (entry_word_of m.snapshot.words page)) p.low ∙ p.out;

@@ -1,5 +1,5 @@
 -- The seats at the start: how the owners fit theirs, and that the others are idle.
-use Rattle.std.proofs.Common.{◌≡◌, ℕ, zero, suc, ◌+◌, List, [], ◌∷◌, ◌++◌, length, length-append, replicate, get_or, sum, refl, sym, ap, ◌∙◌, subst, arith, Option, Some, None}
+use Rattle.std.proofs.Common.{◌≡◌, ℕ, zero, suc, ◌+◌, List, [], ◌∷◌, ◌++◌, length, length-append, get_or, sum, refl, sym, ap, ◌∙◌, subst, arith, Option, Some, None}
 use Rattle.std.specs.List.{AllByRecursion, slice_get}
 use Rattle.std.proofs.lemmas.List.{length-replicate}
 use Rattle.std.proofs.lemmas.List.Sums.{sum_by-cons}
@@ -8,20 +8,19 @@ use Rattle.evac_model.specs.declared.names.PageNo.{PageNo}
 use Rattle.evac_model.specs.declared.call.Call.{Call}
 use Rattle.evac_model.specs.declared.scenario.Scenario.{Scenario}
 use Rattle.evac_model.specs.declared.scenario.StartPage.{StartPage}
-use Rattle.evac_model.specs.Geometry.{Sizes, IsWithinLimits, frame_count}
+use Rattle.evac_model.specs.Geometry.{Sizes, frame_count}
 use Rattle.evac_model.specs.ScenarioGrammar.{call_count}
 use Rattle.evac_model.specs.ScenarioLines.{HasNumbers}
 use Rattle.evac_model.specs.Scenarios.{IsOwnerCall, IsRunnable}
-use Rattle.evac_model.proofs.Lists.{all_weaker}
+use Rattle.evac_model.proofs.Lists.{all_weaker, get_or-replicate_same}
 use Rattle.core_state.specs.declared.hand.HandFrame.{HandFrame}
 use Rattle.core_state.specs.declared.opening.Opening.{Opening}
 use Rattle.core_state.specs.declared.view.View.{View}
-use Rattle.core_state.specs.CoreOpens.{opening_of, opening_words, empty_places, free_hand, unplugged_hand, driver_view, owner_view, owner_views, scanner_view, keeper_view, keeper_views, opening_views}
+use Rattle.core_state.specs.CoreOpens.{opening_of, opening_words, empty_places, owner_view, owner_views, scanner_view, keeper_views, opening_views}
 use Rattle.core_state.specs.Opens.{IsNew, Opens}
 use Rattle.core_state.specs.Views.{Has, IsSeated}
 use Rattle.core_state.proofs.CoreOpened.{core_opens}
 use Rattle.core_state.proofs.Opened.{openings_are_sound}
-use Rattle.core_state.proofs.Starts.{length-free_hand, length-unplugged_hand}
 use Rattle.core_actors.specs.CallSteps.{IsCallOf}
 use Rattle.core_actors.specs.Fits.{Fits}
 use Rattle.core_actors.specs.Owners.{OwnerState, owner_at_start}
@@ -42,15 +41,9 @@ pub length-owners_from : (cells k : ℕ) (scripts : List (List (PageNo × Call))
 length-owners_from cells k [] = refl
 length-owners_from cells k (c ∷ cs) = ap suc (length-owners_from cells (k + 1) cs)
 
--- a list of equal items, read with that item past its end
-pub same_item : {A : Type 0} (n i : ℕ) (x : A) → get_or (replicate n x) i x ≡ x
-same_item zero i x = refl
-same_item (suc n) zero x = refl
-same_item (suc n) (suc i) x = same_item n i x
-
 -- an empty hand has no frame
 pub none_there : (n frame : ℕ) → get_or (empty_places n) frame None ≡ None
-none_there n frame = same_item n frame None
+none_there n frame = get_or-replicate_same n frame None
 
 module _ (s : Sizes) where
   pub length-owner_views : (k : ℕ) (scripts : List (List (PageNo × Call))) → length (owner_views s k (budgets_of scripts)) ≡ length scripts

@@ -1,19 +1,18 @@
 -- An owner whose calls have numbers of 64 bits stores no other ones.
-use Rattle.std.proofs.Common.{◌≡◌, ℕ, zero, suc, ◌+◌, ◌%◌, ◌^◌, ◌<◌, List, [], ◌∷◌, get_or, subst, sym, arith, Option, None, Some}
+use Rattle.std.proofs.Common.{◌≡◌, ℕ, zero, suc, ◌+◌, ◌%◌, ◌^◌, ◌<◌, List, [], ◌∷◌, get_or, subst, arith, None, Some}
 use Rattle.std.specs.List.{AllByRecursion}
 use Rattle.evac_model.specs.declared.names.PageNo.{PageNo}
 use Rattle.evac_model.specs.declared.call.Call.{Call}
 use Rattle.evac_model.specs.declared.call.Call.TheVariants.{Alloc, Free, Read, Write, Add, Pin, Unpin}
 use Rattle.evac_model.specs.ScenarioLines.{IsNumber, HasNumbers}
 use Rattle.core_state.specs.declared.step.Step.{Step}
-use Rattle.core_state.specs.declared.step.Step.TheVariants as steps
 use Rattle.core_actors.specs.declared.action.Action.TheVariants as actions
 use Rattle.core_actors.specs.declared.place.Place.{Place}
 use Rattle.core_actors.specs.declared.place.Place.TheVariants.{Between, InCall}
 use Rattle.core_actors.specs.declared.place.CallPlace.{CallPlace}
 use Rattle.core_actors.specs.declared.place.CallPlace.TheVariants.{Zero, MarkZeros, Take, Draw, Load, Store, Mark, Map, Unmap, Release}
-use Rattle.core_actors.specs.CallSteps.{first_cell, values_of, reply_of}
-use Rattle.core_actors.specs.Places.{first_action, action_at, frame_in}
+use Rattle.core_actors.specs.CallSteps.{values_of}
+use Rattle.core_actors.specs.Places.{first_action, action_at}
 use Rattle.core_actors.specs.Owners.{OwnerState, action_in, next_action}
 use Rattle.core_actors.specs.Actions.{IsStorable, IsStorableAction}
 use Rattle.replay.specs.Keeping.{HaveNumbers}

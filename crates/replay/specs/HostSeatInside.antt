@@ -1,5 +1,5 @@
 -- How the host is kept beside the lines of its commands.
-use Rattle.std.specs.Prelude.{◌≡◌, true}
+use Rattle.std.specs.Prelude.{◌≡◌}
 use Rattle.core_actors.specs.Hosts.{host_ended}
 use Rattle.replay.specs.declared.host_seat.HostSeat.TheInside.{Inside}
 use Rattle.replay.specs.HostSeats.{HostSoFar}
@@ -7,6 +7,6 @@ use Rattle.replay.specs.HostSeats.{HostSoFar}
 abbrev pub host_so_far : Inside → HostSoFar
 host_so_far a = record { state = a.host.state; lines = a.lines.items }
 
--- a host that is known to have ended has ended
+-- it is known whether the host has ended
 abbrev pub IsHostSeat : Inside → Type 0
-IsHostSeat a = a.ended ≡ true → host_ended a.host.state ≡ true
+IsHostSeat a = a.ended ≡ host_ended a.host.state

@@ -18,7 +18,7 @@ use Rattle.core_actors.specs.declared.action.DeviceCall.TheVariants as device_ca
 use Rattle.core_actors.specs.declared.action.Heard.{Heard}
 use Rattle.core_actors.specs.declared.action.SpaceCall.{SpaceCall}
 use Rattle.core_actors.specs.declared.action.SpaceCall.TheVariants.{Lease, Return, Online}
-use Rattle.core_actors.specs.Hosts.{HostState, host_ended, host_action, host_heard, line_of_heard}
+use Rattle.core_actors.specs.Hosts.{HostState, host_ended, host_action, host_heard, line_heard}
 use Rattle.evac_model.specs.Numbers.{is_in}
 use Rattle.replay.specs.Machine.{Setting, HostScene, space_at, device_at, line_list}
 
@@ -73,7 +73,7 @@ MayHostAct c free unplugged x = host_ended x.host ≡ false → MayHostMake c fr
 
 -- the host once it has heard of an action made since
 abbrev pub heard_so_far : HostSoFar → Heard → HostSoFar
-heard_so_far h heard = record { state = host_heard h.state heard; lines = h.lines ++ line_list (line_of_heard h.state heard) }
+heard_so_far h heard = record { state = host_heard h.state heard; lines = h.lines ++ line_list (line_heard h.state heard) }
 
 -- the blocks that the driver holds behind what it asked of the device
 abbrev pub asked_blocks : Sizes → List DeviceAction → DeviceCall → List ℕ

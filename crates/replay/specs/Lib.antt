@@ -14,3 +14,4 @@ pub mod RunningInside
 pub mod Entries
 pub mod Shown
 pub mod ReplayInside
+pub mod Notes

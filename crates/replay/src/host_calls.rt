@@ -3,28 +3,24 @@
 ghost use Rattle.std.specs.Prelude.{◌≡◌, ◌≢◌, ◌+◌, ◌<◌, ◌≤◌, true, [], length, List, IfOk, OnErr};
 ghost use Rattle.evac_model.specs.declared.device_journal.DeviceAction.{DeviceAction};
 ghost use Rattle.evac_model.specs.declared.space.SpaceAction.{SpaceAction};
-ghost use Rattle.evac_model.specs.DeviceAnswer.{request_in};
-ghost use Rattle.evac_model.specs.Geometry.{first_frame};
-ghost use Rattle.evac_model.specs.HostCommands.{BlockRange, answer_to, plugged_by, blocks_of};
+ghost use Rattle.evac_model.specs.HostCommands.{answer_to};
 ghost use Rattle.core_state.specs.CoreState.{IsSound};
-ghost use Rattle.core_actors.specs.Hosts.{HostState, host_heard, line_of_heard};
-ghost use Rattle.evac_model.specs.Numbers.{is_in};
-ghost use Rattle.evac_model.specs.Numbers.{without_range};
+ghost use Rattle.evac_model.specs.Numbers.{is_in, without_range};
 ghost use Rattle.core_actors.specs.declared.action.DeviceCall.{DeviceCall};
 ghost use Rattle.replay.specs.HostSeats.{HostSoFar, MayHandBlocks, MayRequest, MayAskDevice, MayPutOnline, host_scene, heard_so_far, asked_blocks};
 ghost use Rattle.replay.specs.Machine.{device_at, handed_blocks, answered, after_device_call, after_online};
 ghost use Rattle.replay.specs.Seats.{setting_of};
 
-use crate::deaf::Deaf;
-use core_actors::{DeviceCall, DeviceHeard, Heard, plugged_by};
+use crate::no_listener::NoListener;
+use core_actors::{DeviceCall, DeviceHeard, Heard};
 use core_moves::hand_over;
 use core_state::Core;
 use evac_model::{BlockNo, Geometry, OutOfMemory, RequestBytes};
-use mem_device::{Answer, BlockHand, Device, Held, NoMemory, SureSlate};
+use mem_device::{Answer, BlockHand, Device, Held, NoMemory, SureSlate, plugged_by};
 use space::Space;
 
 /// The memory device of a replay: no listener joins it, and its backing never fails.
-pub(crate) type ReplayDevice = Device<Deaf, SureSlate, BlockHand>;
+pub(crate) type ReplayDevice = Device<NoListener, SureSlate, BlockHand>;
 
 /// The frames of blocks, if there are any, go from the hand of one seat to that of another.
 fn hand_blocks(core: &mut Core, g: &Geometry, from: u32, to: u32, first: BlockNo, count: u32)
@@ -70,8 +66,9 @@ fn request(
     ensures sound { IsSound core.new }
     ensures err { OnErr result ((core.new ≡ core.old) × (device.new ≡ device.old) × (held.new.blocks ≡ [])) }
 {
+    let sent = bytes.as_slice();
     let none = held.part(BlockNo(0), 0);
-    match device.answer(bytes.as_slice(), none) {
+    match device.answer(sent, none) {
         Err(NoMemory { held: none }) => {
             held.merge(none);
             Err(OutOfMemory)
@@ -79,7 +76,7 @@ fn request(
         Ok(Answer { response, back }) => {
             held.merge(back);
             let g = device.plugged().geometry();
-            let (first, count) = plugged_by(&g, &bytes, &response);
+            let (first, count) = plugged_by(&g, sent, &response);
             hand_blocks(core, &g, unplugged, 0, first, count);
             Ok(Heard::Device(DeviceHeard::Answered(response)))
         }

@@ -89,7 +89,7 @@ fn act(
 }
 
 impl HostSeat {
-    ghost use Rattle.std.specs.Prelude.{◌≡◌, ◌≢◌, ◌<◌, true, [], length, OnOk, OnErr};
+    ghost use Rattle.std.specs.Prelude.{◌≡◌, ◌≢◌, ◌<◌, true, [], length, Ok, OnOk, OnErr};
     ghost use Rattle.core_state.specs.CoreState.{IsSound};
     ghost use Rattle.core_actors.specs.Hosts.{host_ended, IsHostUnderWay};
     ghost use Rattle.evac_model.specs.HostCommands.{blocks_of};
@@ -98,19 +98,20 @@ impl HostSeat {
     ghost use Rattle.replay.specs.HostSeats.{host_scene, MayHostAct};
 
     /// A host that has heard nothing yet.
-    pub fn new(alloc: Global, host: Host) -> HostSeat
+    pub fn new(alloc: Global, mut host: Host) -> HostSeat
         ensures { result ≡ record { state = host.state; lines = [] } }
     {
+        let ended = matches!(host.next(Heard::Start, OTHERS), Action::Ended);
         HostSeat {
             host,
             lines: Vec::new(alloc),
-            ended: false,
+            ended,
         }
     }
 
-    /// Whether the host was found to have ended.
+    /// Whether the host has ended.
     pub fn has_ended(&self) -> bool
-        ensures { result ≡ true → host_ended self.now.state ≡ true }
+        ensures { result ≡ host_ended self.now.state }
     {
         self.ended
     }
@@ -124,7 +125,7 @@ impl HostSeat {
 
     /// Makes the host's next action, if it hasn't ended. The seat `free` has the free frames in hand, the seat
     /// `unplugged` those of the blocks that aren't plugged, and `held` the blocks that the host is to put online.
-    /// Where there is no memory for a journal or for the lines, nothing changes.
+    /// Where there is no memory for a journal or for the lines, nothing changes. Once the host has ended, it takes none.
     pub fn turn(
         &mut self,
         core: &mut Core,
@@ -152,15 +153,15 @@ impl HostSeat {
         ensures device { device.new.sizes ≡ device.old.sizes }
         ensures held { held.new.blocks ≡ blocks_of self.new.state.online }
         ensures room { held.new.room ≡ held.old.room }
-        ensures err { OnErr result ((host_scene core.new.snapshot self.new space.new.journal device.new.journal
-            ≡ host_scene core.old.snapshot self.old space.old.journal device.old.journal)) }
+        ensures ended { host_ended self.old.state ≡ true → result ≡ Ok tt }
+        ensures err { OnErr result (host_scene core.new.snapshot self.new space.new.journal device.new.journal ≡ host_scene core.old.snapshot self.old space.old.journal device.old.journal) }
     {
-        if self.lines.reserve(1).is_err() {
-            return Err(OutOfMemory);
+        if self.ended {
+            return Ok(());
         }
+        self.lines.reserve(1)?;
         let heard = act(&mut self.host, core, space, device, held, free, unplugged)?;
-        let next = self.host.next(heard, OTHERS);
-        self.ended = matches!(next, Action::Ended);
+        self.ended = matches!(self.host.next(heard, OTHERS), Action::Ended);
         if let Some(line) = self.host.line() {
             self.lines.push_reserved(line);
         }

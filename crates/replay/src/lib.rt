@@ -1,13 +1,13 @@
 //! The replay of a scenario, step by step: each turn of its schedule makes one atomic step of one actor.
 #![tactic(auto)]
 
-mod deaf;
 mod history;
 mod host_calls;
 mod host_report;
 mod host_seat;
 mod laws;
 mod machine;
+mod no_listener;
 mod owner_seat;
 mod pages;
 mod replay;

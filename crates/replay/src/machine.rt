@@ -4,7 +4,7 @@ use crate::host_calls::ReplayDevice;
 use crate::host_seat::HostSeat;
 use crate::owner_seat::OwnerSeat;
 use core_state::Core;
-use evac_model::{Actor, Listed, OutOfMemory};
+use evac_model::{Actor, DeviceAction, Listed, OutOfMemory, SpaceAction};
 use mem_device::BlockHand;
 use space::Space;
 use std::marker::Model;
@@ -21,11 +21,16 @@ pub(crate) struct Running {
     pub(crate) owners: Listed<OwnerSeat>,
 }
 
-/// All of a machine but its core, to be given back as one.
+/// The actions of a machine's frame space and of its memory device, in order.
+#[derive(Drop)]
+pub(crate) struct Journals {
+    pub(crate) space: Vec<SpaceAction>,
+    pub(crate) device: Vec<DeviceAction>,
+}
+
+/// The blocks and the actors of a machine, to be given back as one.
 #[derive(Drop)]
 struct Rest {
-    space: Space,
-    device: ReplayDevice,
     held: BlockHand,
     host: HostSeat,
     owners: Listed<OwnerSeat>,
@@ -49,13 +54,15 @@ impl Running {
     ghost use Rattle.replay.specs.Machine.{run_after};
     ghost use Rattle.replay.specs.Runs.{AllEnded, HaveEnded};
 
-    /// The core of a machine whose actors have all ended, with an entry for each ticket drawn. The memory
-    /// of the rest is given back.
-    pub fn into_core(self) -> Core
+    /// The core of a machine whose actors have all ended, with an entry for each ticket drawn, and the two journals.
+    /// The memory of the rest is given back, and none is taken.
+    pub fn into_parts(self) -> (Core, Journals)
         requires ended { HaveEnded self.machine }
-        ensures snapshot { result.snapshot ≡ self.machine.snapshot }
-        ensures words { 0 < length result.snapshot.words }
-        ensures entries { (t : ℕ) → t < next_ticket_of result.snapshot.words → IsSome (entry_with t result.snapshot.views) }
+        ensures snapshot { result.0.snapshot ≡ self.machine.snapshot }
+        ensures words { 0 < length result.0.snapshot.words }
+        ensures entries { (t : ℕ) → t < next_ticket_of result.0.snapshot.words → IsSome (entry_with t result.0.snapshot.views) }
+        ensures space { result.1.space.items ≡ self.machine.journal }
+        ensures device { result.1.device.items ≡ self.machine.device }
     {
         let Running {
             core,
@@ -65,14 +72,12 @@ impl Running {
             host,
             owners,
         } = self;
-        let _rest = Rest {
-            space,
-            device,
-            held,
-            host,
-            owners,
+        let _rest = Rest { held, host, owners };
+        let journals = Journals {
+            space: space.into_journal(),
+            device: device.into_journal(),
         };
-        core
+        (core, journals)
     }
 
     /// How many owners there are.
@@ -113,8 +118,8 @@ impl Running {
         )
     }
 
-    /// A turn of an actor. A lease takes the memory of the space's journal, a request that of the device's; where
-    /// there is none, nothing changes.
+    /// A turn of an actor. A lease takes the memory of the space's journal, an action of the host that of the device's
+    /// journal and of a line; where there is none, nothing changes.
     pub fn turn(&mut self, actor: Actor) -> Result<(), OutOfMemory>
         ensures turned { OnOk result (self.new ≡ run_after self.old (actor ∷ [])) }
         ensures err { OnErr result (self.new ≡ self.old) }

@@ -1,6 +1,6 @@
 //! The replay of a scenario.
 
-ghost use Rattle.std.specs.Prelude.{◌≡◌, ◌<◌, ◌≤◌, ◌^◌, ℕ, List, [], length, IfOk, IsSome};
+ghost use Rattle.std.specs.Prelude.{◌≡◌, ◌<◌, ◌≤◌, ◌^◌, ℕ, List, [], length, Ok, IfOk, IsSome};
 ghost use Rattle.std.specs.List.{AllByRecursion};
 ghost use Rattle.evac_model.specs.Scenarios.{IsRunnable, IsOwnerCall};
 ghost use Rattle.evac_model.specs.ScenarioGrammar.{call_count, online_of};
@@ -17,27 +17,28 @@ ghost use Rattle.core_actors.specs.Hosts.{host_at_start};
 ghost use Rattle.evac_model.specs.SpaceJournal.{space_at_start};
 ghost use Rattle.replay.specs.Seats.{setting_of};
 ghost use Rattle.replay.specs.StartParts.{AreStartParts};
+ghost use Rattle.replay.specs.Notes.{report_with};
+ghost use Rattle.replay.specs.declared.replay.Notes.{Notes};
 ghost use Rattle.replay.specs.Runs.{budgets_of, owners_from, opening, setting, machine_at_start, HaveEnded, IsReportAfter};
 
 use crate::history::history;
 use crate::host_calls::ReplayDevice;
-use crate::host_report::{actions, runs};
+use crate::host_report::runs;
 use crate::host_seat::HostSeat;
-use crate::machine::Running;
+use crate::machine::{Journals, Running};
 use crate::owner_seat::OwnerSeat;
 use crate::pages::{final_pages, plugged_blocks};
 use crate::schedule;
 use core_actors::{Host, Owner};
 use core_state::{Core, Snapshot};
 use evac_model::{
-    BlockNo, CallList, CommandList, Drawn, EntryList, Geometry, HostCommand, Kind, Listed,
-    OutOfMemory, Scenario, ScriptList, Turn, TurnList,
+    BlockList, BlockNo, CallList, CommandList, Drawn, EntryList, Geometry, HostCommand,
+    HostRunList, Kind, Listed, OutOfMemory, Scenario, ScriptList, Turn, TurnList,
 };
 use mem_device::{BlockHand, Device, SureSlate};
-use report::Report;
+use report::{FinalPageList, Report};
 use space::Space;
 use std::alloc::{AllocError, Global};
-use std::collections::LinkedList;
 use std::marker::Model;
 
 /// The number of calls of each script.
@@ -115,22 +116,26 @@ fn commands_of(alloc: Global, commands: &[HostCommand]) -> Result<CommandList, A
     Ok(Listed::from_vec(Vec::from_slice(alloc, commands)?))
 }
 
-/// What a machine leaves, but for the entries.
-fn notes_of(alloc: Global, commands: &[HostCommand], run: &Running) -> Result<Report, OutOfMemory>
+/// What is reported of a machine beside its entries and its journals.
+#[derive(Drop)]
+struct Notes {
+    host: HostRunList,
+    plugged: BlockList,
+    pages: FinalPageList,
+}
+
+/// What a machine leaves beside its entries and its journals.
+fn notes_of(alloc: Global, commands: &[HostCommand], run: &Running) -> Result<Notes, OutOfMemory>
     ensures { IfOk result (λ notes. (s : Scenario) (h : List Entry) → run.now.setting ≡ setting s → commands.now ≡ s.host → IsKept s run.now.machine
-        → IsHistoryOf (opening s) run.now.machine.snapshot.words run.now.machine.snapshot.views h → IsReportAfter s run.now.machine (record notes { history = h })) }
+        → IsHistoryOf (opening s) run.now.machine.snapshot.words run.now.machine.snapshot.views h
+        → IsReportAfter s run.now.machine (report_with notes h run.now.machine.journal run.now.machine.device)) }
 {
     let words = run.core.snapshot().words.as_slice();
     let host = runs(alloc, commands, run.host.lines())?;
     let pages = final_pages(alloc, run.core.opening(), words)?;
     let plugged = plugged_blocks(alloc, run.device.plugged())?;
-    let journal = Vec::from_slice(alloc, run.space.journal())?;
-    let device = actions(alloc, run.device.journal())?;
-    Ok(Report {
-        history: LinkedList::new(alloc),
+    Ok(Notes {
         host: Listed::from_vec(host),
-        space_journal: Listed::from_vec(journal),
-        device_journal: Listed::from_vec(device),
         plugged: Listed::from_vec(plugged),
         pages: Listed::from_vec(pages),
     })
@@ -149,6 +154,27 @@ fn entries_of(alloc: Global, core: Core) -> Result<EntryList, OutOfMemory>
     Ok(entries)
 }
 
+/// The report of its parts, where there was memory for them. The journals are moved into it.
+fn put_together(
+    notes: Result<Notes, OutOfMemory>,
+    entries: Result<EntryList, OutOfMemory>,
+    journals: Journals,
+) -> Result<Report, OutOfMemory>
+    ensures { IfOk result (λ report. (n : Notes) × (h : List Entry) × (notes ≡ Ok n) × (entries ≡ Ok h)
+        × (report ≡ report_with n h journals.space.items journals.device.items)) }
+{
+    let notes = notes?;
+    let history = entries?;
+    Ok(Report {
+        history,
+        host: notes.host,
+        space_journal: Listed::from_vec(journals.space),
+        device_journal: Listed::from_vec(journals.device),
+        plugged: notes.plugged,
+        pages: notes.pages,
+    })
+}
+
 /// What a machine leaves whose actors have all ended. The scripts, and the memory that steps needed, are given
 /// back before the entries are put in order.
 fn report_of(alloc: Global, commands: &[HostCommand], run: Running) -> Result<Report, OutOfMemory>
@@ -156,10 +182,9 @@ fn report_of(alloc: Global, commands: &[HostCommand], run: Running) -> Result<Re
     ensures { IfOk result (λ report. (s : Scenario) → run.setting ≡ setting s → commands.now ≡ s.host → IsKept s run.machine → IsReportAfter s run.machine report) }
 {
     let notes = notes_of(alloc, commands, &run);
-    let entries = entries_of(alloc, run.into_core());
-    let mut report = notes?;
-    report.history = entries?;
-    Ok(report)
+    let (core, journals) = run.into_parts();
+    let entries = entries_of(alloc, core);
+    put_together(notes, entries, journals)
 }
 
 /// The core of a scenario at its start.
@@ -292,8 +317,10 @@ impl Replay {
     ghost use Rattle.replay.specs.Runs.{setting, machine_at_start, HaveEnded, IsReportOfRun, IsReportOf};
     ghost use Rattle.replay.specs.Schedule.{schedule, round_bound, round_count, turn_bound};
 
-    /// The machine of a scenario at its start, and its turns. It takes the memory of the words, of the
-    /// views, of the frame space and of a copy of the scenario.
+    /// The machine of a scenario at its start, and its turns. It takes the memory of the words, of the views
+    /// with room for all entries, of the frame space and what the rest of its journal needs at least, of the blocks of
+    /// the device and of the driver, of the owners' seats, and of a copy of the scenario and another of its commands
+    /// and named turns.
     pub fn open(alloc: Global, s: &Scenario) -> Result<Replay, OutOfMemory>
         requires { IsRunnable s.now }
         ensures { IfOk result (λ r. r ≡ replay_of s.now) }

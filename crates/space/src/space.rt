@@ -36,6 +36,13 @@ impl Model for Space {
     ghost invariant = { λ a. IsLeftBy (journaled a.kept a.start.items a.journal.items) a.kept (vec_len a.journal) a.owed (vec_capacity a.journal) };
 }
 
+/// All of a space but its journal, to be given back as one.
+#[derive(Drop)]
+struct Rest {
+    kept: Kept,
+    start: Vec<StartPage>,
+}
+
 /// The fault that a frame out for an unmovable page makes.
 fn unmovable(refused: Unmovable) -> IsolateFault
     ensures { result ≡ IsolateFault.Unmovable refused.frame refused.page }
@@ -97,6 +104,20 @@ impl Space {
         ensures possible { IsPossibleJournal self.now.sizes self.now.online self.now.opening self.now.journal }
     {
         &self.journal
+    }
+
+    /// The actions so far, in order. The memory of the rest is given back, and none is taken.
+    pub fn into_journal(self) -> Vec<SpaceAction>
+        ensures { result.items ≡ self.journal }
+    {
+        let Space {
+            kept,
+            start,
+            journal,
+            owed: _,
+        } = self;
+        let _rest = Rest { kept, start };
+        journal
     }
 
     /// The page and the kind that a frame is out for, if it is out. A number that is no frame's is not.

@@ -1,6 +1,6 @@
 //! What a device answers to requests, one alone or one after another.
 
-ghost use Rattle.std.specs.Prelude.{◌≡◌, ◌+◌, ◌<◌, ◌≤◌, [], None, IfOk, IfSome};
+ghost use Rattle.std.specs.Prelude.{◌≡◌, ◌+◌, ◌-◌, ◌^◌, ◌<◌, ◌≤◌, [], None, IfOk, IfSome};
 ghost use Rattle.std.specs.List.{range_with_len};
 ghost use Rattle.evac_model.specs.DeviceAnswer.{request_in, are_plugged};
 ghost use Rattle.mem_device.specs.Answering.{named_blocks};
@@ -8,12 +8,12 @@ ghost use Rattle.mem_device.specs.DeviceView.{device_state};
 
 use crate::small_geometry;
 use block_map::BlockMap;
-use dma_listeners::Refused;
+use dma_listeners::{Failed, Refused};
 use evac_model::{NumberList, Request, RequestBytes, STATE_PLUGGED};
 use mem_codec::read_request;
 use mem_device::{
-    BlockHand, BlockNo, Config, Device, DeviceAct, Held, Listener, Response, SizeFault, Slate,
-    range_at,
+    Backing, BlockHand, BlockNo, Config, Device, DeviceAct, Held, Listener, Response, SizeFault,
+    Slate, plugged_by, range_at, requested_blocks,
 };
 use std::alloc::{AllocError, Global};
 use std::process::Abort;
@@ -40,6 +40,20 @@ impl Listener for Deaf {
     }
 
     fn discard(&mut self, _first: BlockNo, _n: u32) {}
+}
+
+// A backing that fails at each call, and whose count of faults stands at its end.
+#[derive(Drop)]
+struct Worn;
+
+impl Backing for Worn {
+    ghost faults = { λ _. 2 ^ 64 - 1 };
+
+    ghost told = { λ _. None };
+
+    fn discard(&mut self, _first: BlockNo, _n: u32) -> Result<(), Failed> {
+        Err(Failed)
+    }
 }
 
 type SmallDevice = Device<Deaf, Slate, BlockHand>;
@@ -73,7 +87,7 @@ fn are_all_plugged(map: &BlockMap, first: BlockNo, n: u32) -> bool
 }
 
 // The range of the plugged blocks that a request names; None where they may be no range.
-fn named(device: &SmallDevice, bytes: &[u8]) -> Option<(BlockNo, u32)>
+fn named<B: Backing>(device: &Device<Deaf, B, BlockHand>, bytes: &[u8]) -> Option<(BlockNo, u32)>
     ensures blocks { IfSome result (λ r. range_with_len r.0.0 r.1 ≡ named_blocks device.now.sizes (device_state device.now).plugged (request_in bytes.now)) }
     ensures inside { IfSome result (λ r. r.0.0 + r.1 ≤ device.now.sizes.managed) }
 {
@@ -98,7 +112,11 @@ fn named(device: &SmallDevice, bytes: &[u8]) -> Option<(BlockNo, u32)>
 }
 
 // What the device answers to any request but an UNPLUG_ALL.
-fn ask(alloc: Global, device: &mut SmallDevice, bytes: &[u8]) -> Result<Option<Response>, Fail> {
+fn ask<B: Backing>(
+    alloc: Global,
+    device: &mut Device<Deaf, B, BlockHand>,
+    bytes: &[u8],
+) -> Result<Option<Response>, Fail> {
     if bytes.len() > 64 {
         return Ok(None);
     }
@@ -235,6 +253,69 @@ fn a_backing_that_fails(rt: HostRuntime) -> Result<(), Fail> {
         let got = ask(rt.alloc(), &mut device, &request(kind, addr, count))?;
         assert_eq!(rt; got, Some(want), "{kind} {addr} {count}");
     }
+    Ok(())
+}
+
+// The device of a small machine with 3 plugged blocks, over a worn backing.
+fn small_worn(alloc: Global) -> Result<Device<Deaf, Worn, BlockHand>, Fail> {
+    let g = small_geometry(3)?;
+    let unplugged = BlockHand::new(alloc, g, BlockNo(3), 1)?;
+    let device = Device::open(alloc, g, Worn, unplugged)?;
+    Ok(device)
+}
+
+#[test]
+fn a_worn_backing_is_asked_for_no_plug(rt: HostRuntime) -> Result<(), Fail> {
+    let mut device = small_worn(rt.alloc())?;
+    assert_eq!(rt; device.set_requested(256), Ok(()));
+    let cases = [
+        (0, 320, 1, ACK),
+        (1, 320, 1, Response::Busy),
+        (1, 320, 0, Response::Error),
+        (3, 128, 4, ACK),
+    ];
+    for (kind, addr, count, want) in cases {
+        let got = ask(rt.alloc(), &mut device, &request(kind, addr, count))?;
+        assert_eq!(rt; got, Some(want), "{kind} {addr} {count}");
+    }
+    Ok(())
+}
+
+#[test]
+fn blocks_named_and_plugged(rt: HostRuntime) -> Result<(), Fail> {
+    let g = small_geometry(3)?;
+    // the kind, the range, the blocks named, and how many of them an ACK plugged
+    let cases = [
+        (0, 320, 1, (3, 1), 1),
+        (0, 128, 4, (0, 4), 4),
+        (0, 129, 1, (0, 0), 0),
+        (0, 320, 2, (0, 0), 0),
+        (1, 192, 2, (1, 2), 0),
+        (1, 64, 1, (0, 0), 0),
+        (2, 0, 0, (0, 4), 0),
+        (3, 256, 2, (2, 2), 0),
+        (4, 128, 1, (0, 0), 0),
+    ];
+    for (kind, addr, count, (first, n), plugged) in cases {
+        let bytes = request(kind, addr, count);
+        assert_eq!(rt;
+            requested_blocks(&g, &bytes),
+            (BlockNo(first), n),
+            "{kind} {addr} {count}"
+        );
+        assert_eq!(rt;
+            plugged_by(&g, &bytes, &ACK).1,
+            plugged,
+            "{kind} {addr} {count}"
+        );
+        assert_eq!(rt;
+            plugged_by(&g, &bytes, &Response::Busy).1,
+            0,
+            "{kind} {addr} {count}"
+        );
+    }
+    assert_eq!(rt; plugged_by(&g, &request(0, 320, 1), &ACK), (BlockNo(3), 1));
+    assert_eq!(rt; requested_blocks(&g, &[0; 23]), (BlockNo(0), 0));
     Ok(())
 }
 

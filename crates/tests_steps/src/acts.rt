@@ -8,7 +8,7 @@ use core_state::{Core, MoveStep, Seen, Step};
 use evac_model::{FrameNo, OutOfMemory};
 
 /// What a seat does to the core.
-#[derive(Clone, Copy, Debug, PartialEq, Eq)]
+#[derive(Clone, Copy, Debug)]
 pub enum Act {
     /// A step of a call.
     Step {

@@ -1,11 +1,11 @@
 //! What no clause says: that the steps that are allowed are those that were meant, by answers counted by hand.
 
 use crate::holders::{FREED, draw, end, holder};
-use crate::play::{core, give, load, mapping, mark, play, remap, step, store, take};
+use crate::play::Want::{Made, May, MayNot};
+use crate::play::{follow_new, give, load, mapping, mark, remap, step, store, take};
 use crate::{Act, allows};
 use core_state::{MoveStep, Step};
 use evac_model::{Call, Reply};
-use std::alloc::Global;
 use std::test::Fail;
 
 /// A release without an entry.
@@ -16,104 +16,126 @@ fn let_go(seat: u32) -> Act {
 #[test]
 fn steps_of_a_seat_that_holds_nothing(rt: HostRuntime) -> Result<(), Fail> {
     // owner 1 has a ticket left, owner 2 none; the driver has none, but the right to move every page
-    let core = core(rt.alloc(), 1, 0)?;
-    let cases = [
-        (take(1, 0), true),
-        (take(1, 1), true),
-        (take(1, 2), false),
-        (take(2, 0), false),
-        (take(0, 1), true),
-        (take(0, 2), false),
-        (take(4, 0), false),
-        (draw(1), false),
-        (load(1, 0), false),
-        (store(1, 1, 0, 7), false),
-        (let_go(0), false),
-        (end(1, Call::Free, Reply::NotMapped), false),
-        (store(4, 2, 0, 7), true),
-        (mark(4, 2), true),
-        (mark(4, 1), false),
-        (mark(5, 2), false),
+    let table = [
+        (take(1, 0), May),
+        (take(1, 1), May),
+        (take(1, 2), MayNot),
+        (take(2, 0), MayNot),
+        (take(0, 1), May),
+        (take(0, 2), MayNot),
+        (take(4, 0), MayNot),
+        (draw(1), MayNot),
+        (load(1, 0), MayNot),
+        (store(1, 1, 0, 7), MayNot),
+        (let_go(0), MayNot),
+        (end(1, Call::Free, Reply::NotMapped), MayNot),
+        (store(4, 2, 0, 7), May),
+        (mark(4, 2), May),
+        (mark(4, 1), MayNot),
+        (mark(5, 2), MayNot),
     ];
-    for (act, want) in cases {
-        assert_eq!(rt; allows(&core, act), want, "{act:?}");
-    }
-    Ok(())
+    follow_new(&rt, rt.alloc(), [1, 0], &table)
 }
 
 #[test]
 fn steps_of_a_holder(rt: HostRuntime) -> Result<(), Fail> {
     // owner 1 holds page 0, which is mapped, and the driver page 1, which isn't
-    let mut core = core(rt.alloc(), 1, 1)?;
-    let acts = [give(4, 1, 2), take(1, 0), take(0, 1)];
-    let _seen = play(rt.alloc(), &mut core, &acts)?;
-    let cases = [
-        (take(1, 1), false),
-        (draw(1), true),
-        (draw(0), false),
-        (load(1, 1), true),
-        (load(1, 2), false),
-        (load(0, 0), false),
-        (store(1, 1, 1, 7), true),
-        (store(1, 2, 0, 7), true),
-        (store(1, 0, 0, 7), false),
-        (store(1, 1, 2, 7), false),
-        (store(0, 0, 0, 7), false),
-        (mark(1, 1), true),
-        (mark(1, 2), true),
-        (mark(1, 9), false),
-        (end(1, Call::Pin, Reply::Done), false),
+    let table = [
+        (give(4, 1, 2), Made),
+        (take(1, 0), Made),
+        (take(0, 1), Made),
+        (take(1, 1), MayNot),
+        (draw(1), May),
+        (draw(0), MayNot),
+        (load(1, 1), May),
+        (load(1, 2), MayNot),
+        (load(0, 0), MayNot),
+        (store(1, 1, 1, 7), May),
+        (store(1, 2, 0, 7), May),
+        (store(1, 0, 0, 7), MayNot),
+        (store(1, 1, 2, 7), MayNot),
+        (store(0, 0, 0, 7), MayNot),
+        (mark(1, 1), May),
+        (mark(1, 2), May),
+        (mark(1, 9), MayNot),
+        (end(1, Call::Pin, Reply::Done), MayNot),
+        (draw(1), Made),
+        (draw(1), MayNot),
+        (end(1, Call::Pin, Reply::Done), May),
     ];
-    for (act, want) in cases {
-        assert_eq!(rt; allows(&core, act), want, "{act:?}");
-    }
-    let _drawn = play(rt.alloc(), &mut core, &[draw(1)])?;
-    assert!(rt; !allows(&core, draw(1)));
-    assert!(rt; allows(&core, end(1, Call::Pin, Reply::Done)));
-    Ok(())
-}
-
-/// Whether the seat may let its page go without an entry, after these acts.
-fn may_let_go(alloc: Global, seat: u32, acts: &[Act]) -> Result<bool, Fail> {
-    let mut core = core(alloc, 1, 1)?;
-    let _seen = play(alloc, &mut core, acts)?;
-    Ok(allows(&core, let_go(seat)))
+    follow_new(&rt, rt.alloc(), [1, 1], &table)
 }
 
 #[test]
-fn releases_without_an_entry(rt: HostRuntime) -> Result<(), Fail> {
-    let alloc = rt.alloc();
-    let takes = take(0, 0);
-    let loads = load(0, 0);
-    let marks = mark(0, 1);
-    let same = store(0, 1, 0, 0);
-    let other = store(0, 1, 0, 6);
-    let begins = mapping(0, MoveStep::Moving);
-    assert!(rt; may_let_go(alloc, 0, &[takes])?);
-    assert!(rt; !may_let_go(alloc, 1, &[take(1, 0)])?);
-    assert!(rt; !may_let_go(alloc, 1, &[take(1, 0), draw(1)])?);
-    assert!(rt; may_let_go(alloc, 0, &[takes, loads, same, marks])?);
-    assert!(rt; !may_let_go(alloc, 0, &[takes, loads, same])?);
-    assert!(rt; !may_let_go(alloc, 0, &[takes, loads, other, marks])?);
-    assert!(rt; !may_let_go(alloc, 0, &[takes, same, marks])?);
-    assert!(rt; !may_let_go(alloc, 0, &[takes, begins])?);
-    assert!(rt; !allows(&holder(alloc, [5, 6], &FREED)?, let_go(1)));
+fn owners_release_with_an_entry(rt: HostRuntime) -> Result<(), Fail> {
+    let table = [
+        (take(1, 0), Made),
+        (let_go(1), MayNot),
+        (draw(1), Made),
+        (let_go(1), MayNot),
+    ];
+    follow_new(&rt, rt.alloc(), [1, 1], &table)
+}
+
+#[test]
+fn a_freed_page_is_released_with_an_entry(rt: HostRuntime) -> Result<(), Fail> {
+    let core = holder(rt.alloc(), [5, 6], &FREED)?;
+    assert!(rt; !allows(&core, let_go(1)));
     Ok(())
+}
+
+#[test]
+fn an_unchanged_page_may_be_let_go(rt: HostRuntime) -> Result<(), Fail> {
+    let table = [
+        (take(0, 0), Made),
+        (let_go(0), May),
+        (load(0, 0), Made),
+        (store(0, 1, 0, 0), Made),
+        (let_go(0), MayNot),
+        (mark(0, 1), Made),
+        (let_go(0), May),
+    ];
+    follow_new(&rt, rt.alloc(), [1, 1], &table)
+}
+
+#[test]
+fn a_changed_page_may_not_be_let_go(rt: HostRuntime) -> Result<(), Fail> {
+    let other = [
+        (take(0, 0), Made),
+        (load(0, 0), Made),
+        (store(0, 1, 0, 6), Made),
+        (mark(0, 1), Made),
+        (let_go(0), MayNot),
+    ];
+    follow_new(&rt, rt.alloc(), [1, 1], &other)?;
+    let not_loaded = [
+        (take(0, 0), Made),
+        (store(0, 1, 0, 0), Made),
+        (mark(0, 1), Made),
+        (let_go(0), MayNot),
+    ];
+    follow_new(&rt, rt.alloc(), [1, 1], &not_loaded)?;
+    let begun = [
+        (take(0, 0), Made),
+        (mapping(0, MoveStep::Moving), Made),
+        (let_go(0), MayNot),
+    ];
+    follow_new(&rt, rt.alloc(), [1, 1], &begun)
 }
 
 #[test]
 fn a_moved_page_may_be_let_go(rt: HostRuntime) -> Result<(), Fail> {
-    let acts = [
-        give(4, 0, 2),
-        take(0, 0),
-        mapping(0, MoveStep::Moving),
-        load(0, 0),
-        load(0, 1),
-        store(0, 2, 0, 0),
-        store(0, 2, 1, 0),
-        mark(0, 2),
-        remap(0, 2),
+    let table = [
+        (give(4, 0, 2), Made),
+        (take(0, 0), Made),
+        (mapping(0, MoveStep::Moving), Made),
+        (load(0, 0), Made),
+        (load(0, 1), Made),
+        (store(0, 2, 0, 0), Made),
+        (store(0, 2, 1, 0), Made),
+        (mark(0, 2), Made),
+        (remap(0, 2), Made),
+        (let_go(0), May),
     ];
-    assert!(rt; may_let_go(rt.alloc(), 0, &acts)?);
-    Ok(())
+    follow_new(&rt, rt.alloc(), [1, 1], &table)
 }

@@ -3,7 +3,7 @@
 ghost use Rattle.std.specs.Prelude.{◌≤◌, IfOk, length};
 ghost use Rattle.core_state.specs.CoreState.{IsSound};
 
-use crate::play::{core, give, load, make_one, map, mapping, mark, play, step, store, take};
+use crate::play::{core, give, load, make_all, make_some, map, mapping, mark, step, store, take};
 use crate::{Act, allows};
 use core_state::{CallDone, Core, MoveStep, Step};
 use evac_model::{Call, Cells, Kind, Reply};
@@ -11,7 +11,7 @@ use std::alloc::Global;
 use std::test::Fail;
 
 /// What an owner does to the mapping of the page that it holds.
-#[derive(Clone, Copy, Debug, PartialEq, Eq)]
+#[derive(Clone, Copy, Debug)]
 pub(crate) enum Mapping {
     /// Nothing.
     Kept,
@@ -121,20 +121,14 @@ pub(crate) fn unmap(seat: u32) -> Act {
     mapping(seat, MoveStep::Unmap)
 }
 
-/// Owner 1 gets frame 2, and stores zeros in it.
-pub(crate) fn zeroes() -> [Act; 4] {
+/// Owner 1 gets frame 2, and stores zeros in it; owner 2 writes both cells of page 0.
+fn before(cells: [u64; 2]) -> [Act; 10] {
+    let [first, second] = cells;
     [
         give(4, 1, 2),
         store(1, 2, 0, 0),
         store(1, 2, 1, 0),
         mark(1, 2),
-    ]
-}
-
-/// Owner 2 writes both cells of page 0.
-pub(crate) fn writes(cells: [u64; 2]) -> [Act; 6] {
-    let [first, second] = cells;
-    [
         take(2, 0),
         draw(2),
         store(2, 1, 0, first),
@@ -144,54 +138,40 @@ pub(crate) fn writes(cells: [u64; 2]) -> [Act; 6] {
     ]
 }
 
-/// Owner 1 loads some cells of the page that it holds.
-fn load_some(core: &mut Core, loads: [bool; 2]) -> Result<(), Fail>
-    requires { IsSound core.old }
-    ensures { IsSound core.new }
-{
-    let [first, second] = loads;
-    if first {
-        let _word = make_one(core, load(1, 0))?;
-    }
-    if second {
-        let _word = make_one(core, load(1, 1))?;
-    }
-    Ok(())
+/// An act that is made only where this is so.
+fn act_if(so: bool, act: Act) -> Option<Act> {
+    if so { Some(act) } else { None }
 }
 
-/// Owner 1 stores a value in a cell of a frame, where one is given.
-fn store_one(core: &mut Core, frame: u32, cell: u32, value: Option<u64>) -> Result<(), Fail>
-    requires { IsSound core.old }
-    ensures { IsSound core.new }
-{
-    if let Some(value) = value {
-        let _stored = make_one(core, store(1, frame, cell, value))?;
-        let _marked = make_one(core, mark(1, frame))?;
+/// Whether the page is unmapped, and whether it is mapped then.
+fn changes(mapping: Mapping) -> [bool; 2] {
+    match mapping {
+        Mapping::Kept => [false, false],
+        Mapping::Mapped => [false, true],
+        Mapping::Unmapped => [true, false],
+        Mapping::Anew => [true, true],
     }
-    Ok(())
 }
 
-/// Owner 1 changes the mapping of the page that it holds, and gives the frame that the page has then.
-fn change(core: &mut Core, change: Mapping) -> Result<u32, Fail>
-    requires { IsSound core.old }
-    ensures { IsSound core.new }
-{
-    match change {
-        Mapping::Kept => Ok(1),
-        Mapping::Mapped => {
-            let _mapped = make_one(core, map(1, 2))?;
-            Ok(2)
-        }
-        Mapping::Unmapped => {
-            let _unmapped = make_one(core, unmap(1))?;
-            Ok(1)
-        }
-        Mapping::Anew => {
-            let _unmapped = make_one(core, unmap(1))?;
-            let _mapped = make_one(core, map(1, 2))?;
-            Ok(2)
-        }
-    }
+/// What owner 1 does to the page: it takes it and draws a ticket, loads, changes the mapping and stores. Stores go to
+/// frame 2 where the page was mapped to it.
+fn acts_on(taken: &Taken) -> [Option<Act>; 10] {
+    let [load_first, load_second] = taken.loads;
+    let [unmaps, maps] = changes(taken.mapping);
+    let [first, second] = taken.stores;
+    let frame = if maps { 2 } else { 1 };
+    [
+        Some(take(1, taken.page)),
+        Some(draw(1)),
+        act_if(load_first, load(1, 0)),
+        act_if(load_second, load(1, 1)),
+        act_if(unmaps, unmap(1)),
+        act_if(maps, map(1, 2)),
+        act_if(first.is_some(), store(1, frame, 0, first.unwrap_or(0))),
+        act_if(first.is_some(), mark(1, frame)),
+        act_if(second.is_some(), store(1, frame, 1, second.unwrap_or(0))),
+        act_if(second.is_some(), mark(1, frame)),
+    ]
 }
 
 /// Owner 1 holds a page, with a ticket drawn, after owner 2 wrote these cells in page 0.
@@ -199,14 +179,8 @@ pub(crate) fn holder(alloc: Global, cells: [u64; 2], taken: &Taken) -> Result<Co
     ensures { IfOk result (λ core. IsSound core) }
 {
     let mut core = core(alloc, 1, 1)?;
-    let _zeroes = play(alloc, &mut core, &zeroes())?;
-    let _writes = play(alloc, &mut core, &writes(cells))?;
-    let _takes = play(alloc, &mut core, &[take(1, taken.page), draw(1)])?;
-    load_some(&mut core, taken.loads)?;
-    let frame = change(&mut core, taken.mapping)?;
-    let [first, second] = taken.stores;
-    store_one(&mut core, frame, 0, first)?;
-    store_one(&mut core, frame, 1, second)?;
+    make_all(&mut core, &before(cells))?;
+    make_some(&mut core, &acts_on(taken))?;
     Ok(core)
 }
 
@@ -229,8 +203,8 @@ pub(crate) fn pinned(alloc: Global, pins: u32) -> Result<Core, Fail>
     let mut core = core(alloc, 1, pins)?;
     let pin = [take(2, 0), draw(2), end(2, Call::Pin, Reply::Done)];
     for _pin in 0..pins {
-        let _seen = play(alloc, &mut core, &pin)?;
+        make_all(&mut core, &pin)?;
     }
-    let _takes = play(alloc, &mut core, &[take(1, 0), draw(1)])?;
+    make_all(&mut core, &[take(1, 0), draw(1)])?;
     Ok(core)
 }

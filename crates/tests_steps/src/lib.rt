@@ -1,5 +1,5 @@
-//! Tests of the steps of calls, of steps on mappings and hand-overs, and of the actions that owners and the
-//! host give. Each act of a test is one that the core says is allowed.
+//! Tests of the steps of calls, and of steps on mappings and hand-overs. Each act of a test is one that the core says is
+//! allowed.
 #![tactic(auto)]
 
 mod acts;
@@ -17,11 +17,7 @@ mod allowed_mappings;
 #[cfg(test)]
 mod holders;
 #[cfg(test)]
-mod hosts;
-#[cfg(test)]
 mod moves;
-#[cfg(test)]
-mod owners;
 #[cfg(test)]
 mod play;
 #[cfg(test)]

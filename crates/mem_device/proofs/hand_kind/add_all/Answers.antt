@@ -37,7 +37,7 @@ returns-clause-plugged c =
     let after = c.loop-b.map.plugged in
     let m = c.args.map.now.sizes.managed in
     let same : c.loop-b.map.sizes.managed ≡ m = ap (λ (s : Sizes). s.managed) c.loop-b.invariant.sizes in
-    let end : c.args.more.now.sizes.managed ≡ c.managed-end.result = sym (c.managed-end.ensures.size ∙ ap (λ (s : Sizes). s.managed) c.geometry-2.ensures.sizes) in
+    let end : c.args.more.now.sizes.managed ≡ c.device_blocks-end.result = sym (c.device_blocks-end.ensures.size ∙ ap (λ (s : Sizes). s.managed) c.geometry-2.ensures.sizes) in
     let last : c.loop-b.b ≡ c.args.more.now.sizes.managed = omega (arith, end) in
     added_all m c.args.more.now.sizes.managed old more after c.geometry.ensures.rising c.geometry-2.ensures.rising (subst (λ (k : ℕ). IsRisingBelow k after) same c.loop-b.invariant.rising) c.requires
     (λ k. c.loop-b.invariant.has k ∙ ap (λ (x : ℕ). is_in k old || (is_in k more && nat_lt k x)) last)

@@ -1,4 +1,4 @@
-use Rattle.replay.proofs.Kept.{starts_are_kept, turns_are_kept}
+use Rattle.replay.proofs.MachineKept.{starts_are_kept, turns_are_kept}
 use Rattle.replay.proofs.Ends.{runs_end_if_kept}
 use Rattle.replay.proofs.laws.runs_end_within_their_bound.Goals as goal
 

@@ -1,4 +1,4 @@
-use Rattle.replay.proofs.Kept.{starts_are_kept}
+use Rattle.replay.proofs.MachineKept.{starts_are_kept}
 use Rattle.replay.proofs.laws.starts_are_kept.Goals as goal
 
 pub returns : goal.returns

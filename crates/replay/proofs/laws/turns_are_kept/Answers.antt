@@ -1,4 +1,4 @@
-use Rattle.replay.proofs.Kept.{turns_are_kept}
+use Rattle.replay.proofs.MachineKept.{turns_are_kept}
 use Rattle.replay.proofs.laws.turns_are_kept.Goals as goal
 
 pub returns : goal.returns

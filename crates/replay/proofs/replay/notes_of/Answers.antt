@@ -1,4 +1,4 @@
-use Rattle.std.proofs.Common.{◌∙◌, ℕ, List, sym, ap, subst}
+use Rattle.std.proofs.Common.{◌∙◌, ℕ, List, refl, sym, ap, subst}
 use Rattle.evac_model.specs.declared.host.HostCommand.{HostCommand}
 use Rattle.evac_model.specs.declared.host.HostLine.{HostLine}
 use Rattle.evac_model.specs.Geometry.{Sizes}
@@ -32,12 +32,12 @@ returns c s h set commands kept history =
     let settings = ap (λ (r : Run). r.setting) c.run.view_is ∙ set in
     let opened = c.opening.ensures.opening ∙ ap (λ (x : Setting). x.opening) settings in
     let sizes = running.device ∙ (sym (ap (λ (x : Setting). x.sizes) running.set) ∙ ap (λ (x : Setting). x.sizes) settings) in
-    subst (λ (r : Run). IsReportAfter s r.machine (record { history = h; host = c.from_vec.result; space_journal = c.from_vec-2.result; device_journal = c.from_vec-3.result; plugged = c.from_vec-4.result; pages = c.from_vec-5.result })) c.run.view_is
+    subst (λ (r : Run). IsReportAfter s r.machine (record { history = h; host = c.from_vec.result; space_journal = r.machine.journal; device_journal = r.machine.device; plugged = c.from_vec-2.result; pages = c.from_vec-3.result })) c.run.view_is
     (record {
       history = subst (λ (r : Run). IsHistoryOf (opening s) r.machine.snapshot.words r.machine.snapshot.views h) (sym c.run.view_is) history;
       host = c.from_vec.ensures ∙ (c.in_ok-host.ensures ∙ (ap (λ (l : List HostCommand). host_runs l c.lines.result.now) commands ∙ ap (λ (l : List HostLine). host_runs s.host l) c.lines.ensures));
-      space = c.from_vec-2.ensures ∙ (c.in_ok-journal.ensures.items ∙ c.journal.ensures.actions);
-      device = c.from_vec-3.ensures ∙ (c.in_ok-device.ensures ∙ c.journal-2.ensures);
-      plugged = c.from_vec-4.ensures ∙ (c.in_ok-plugged.ensures ∙ (ap (λ (l : List ℕ). block_list l) c.plugged.ensures.plugged ∙ ap (λ (g : Sizes). block_list (device_at g inside.device.journal).plugged) sizes));
-      pages = c.from_vec-5.ensures ∙ (c.in_ok-pages.ensures ∙ (ap (λ (o : Opening). shown_below o c.as_slice-words.result.now o.pages) opened ∙ ap (λ (l : List ℕ). shown_below (opening s) l s.geometry.pages) words));
+      space = refl;
+      device = refl;
+      plugged = c.from_vec-2.ensures ∙ (c.in_ok-plugged.ensures ∙ (ap (λ (l : List ℕ). block_list l) c.plugged.ensures.plugged ∙ ap (λ (g : Sizes). block_list (device_at g inside.device.journal).plugged) sizes));
+      pages = c.from_vec-3.ensures ∙ (c.in_ok-pages.ensures ∙ (ap (λ (o : Opening). shown_below o c.as_slice-words.result.now o.pages) opened ∙ ap (λ (l : List ℕ). shown_below (opening s) l s.geometry.pages) words));
     })

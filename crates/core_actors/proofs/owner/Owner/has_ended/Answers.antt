@@ -1,4 +1,4 @@
-use Rattle.std.proofs.Common.{◌≡◌, ℕ, ◌==◌, ap, ◌∙◌}
+use Rattle.std.proofs.Common.{ℕ, ◌==◌, ap, ◌∙◌}
 use Rattle.core_actors.specs.Owners.{OwnerState}
 use Rattle.core_actors.specs.Actions.{ends_with_next}
 use Rattle.core_actors.proofs.Kept.{ends_between}

@@ -1,6 +1,4 @@
-use Rattle.std.proofs.Common.{◌≡◌, ◌+◌, ◌<◌, false, true, Bool, List, drop, length, if◌then◌else◌, sym, ap, ◌∙◌, subst, arith}
-use Rattle.evac_model.specs.declared.call.Call.{Call}
-use Rattle.evac_model.specs.declared.names.PageNo.{PageNo}
+use Rattle.std.proofs.Common.{◌≡◌, ◌+◌, ◌<◌, false, true, Bool, drop, length, if◌then◌else◌, sym, ap, ◌∙◌, subst, arith}
 use Rattle.core_actors.specs.Counts.{IsUnderWay}
 use Rattle.core_actors.specs.OwnerInside.{state_of}
 use Rattle.core_actors.specs.Owners.{OwnerState, are_none, owner_after}

@@ -6,11 +6,12 @@ pub returns-clause-goes_by : goal.returns-clause-goes_by
 returns-clause-goes_by c =
     let most : c.args.g.block ≤ 512 = power_to_512_most c.args.g.block c.block-frames.ensures.within.block in
     record {
-      room = omega (arith, c.no_words.ensures);
+      frames = omega (arith, c.no_words.ensures.frames);
+      places = c.no_words.ensures.rounds;
       few = omega arith;
       counted = refl;
       rounds = tt;
       in_order = tt;
-      out_before = tt;
+      busy_before = tt;
       stands = (refl, refl);
     }

@@ -1,6 +1,6 @@
 use Rattle.std.proofs.Common.{rules, ◌≡◌, subst, sym, ◌∙◌}
 use Rattle.evacuate.specs.Evacuating.{Evacuating, evacuation_after}
-use Rattle.evacuate.specs.UnderWay.{GoesOn}
+use Rattle.evacuate.specs.UnderWay.{GoesOnBy}
 use Rattle.evacuate.proofs.Steps.{goes_on}
 use Rattle.evacuate.proofs.Ends.{has_emptied, has_failed, log_length}
 use Rattle.evacuate.proofs.evacuation.Evacuation.next.Goals as goal
@@ -9,7 +9,7 @@ pub returns-clause-goes_on : goal.returns-clause-goes_on
 returns-clause-goes_on c =
     λ t g h w.
     let state : c.if-answers.self ≡ evacuation_after c.args.self.now c.args.seen = search rules in
-    subst (λ (x : Evacuating). GoesOn c.args.self.now x t c.args.seen) (sym state) (goes_on c.args.self.now t c.args.seen g h w)
+    subst (λ (x : Evacuating). GoesOnBy c.args.self.now x t c.args.seen) (sym state) (goes_on c.args.self.now t c.args.seen g h w)
 
 pub returns-clause-emptied : goal.returns-clause-emptied
 returns-clause-emptied c = λ t e g. has_emptied c.if-answers.self t (sym c.action.ensures ∙ e) g

@@ -9,7 +9,7 @@ returns-clause-blocks c =
     let m = c.args.g.managed in
     let before = c.in_ok-map.map.plugged in
     let sizes : c.in_ok-map.map.sizes.managed ≡ m = ap (λ (s : Sizes). s.managed) c.in_ok-map.ensures.sizes in
-    let whole : c.managed-managed.result ≡ m = c.managed-managed.ensures.size ∙ ap (λ (s : Sizes). s.managed) c.geometry.ensures.sizes ∙ sizes in
+    let whole : c.device_blocks-blocks.result ≡ m = c.device_blocks-blocks.ensures.size ∙ ap (λ (s : Sizes). s.managed) c.geometry.ensures.sizes ∙ sizes in
     only_range c.args.first.0 c.args.n m before c.clear.new.self.plugged _ c.requires
     (subst (λ (k : ℕ). IsRisingBelow k before) sizes c.geometry.ensures.rising)
     (c.clear.ensures.plugged ∙ ap (λ (k : ℕ). without_range 0 k before) whole)

@@ -7,7 +7,7 @@ use Rattle.replay.specs.ReplayInside.{ReplayState, replay_of}
 use Rattle.replay.specs.Schedule.{draw_count, round_bound, round_count, turn_bound}
 use Rattle.replay.proofs.Done.{most_rounds, owner_number, few_draws, few_turns}
 use Rattle.replay.proofs.Ends.{runs_end_if_kept}
-use Rattle.replay.proofs.Kept.{starts_are_kept, turns_are_kept}
+use Rattle.replay.proofs.MachineKept.{starts_are_kept, turns_are_kept}
 use Rattle.replay.proofs.Lengths.{bounds_count_turns}
 use Rattle.replay.proofs.replay.Replay.bound.Goals.{in-Some, in-None}
 use Rattle.replay.proofs.replay.Replay.bound.Goals as goal

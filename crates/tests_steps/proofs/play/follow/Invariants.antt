@@ -1,5 +1,5 @@
 use Rattle.core_state.specs.CoreState.{IsSound}
-use Rattle.tests_steps.proofs.play.play.Given as goal
+use Rattle.tests_steps.proofs.play.follow.Given as goal
 
 abbrev pub invariant-loop-act : goal.invariant-loop-act
-invariant-loop-act l = IsSound l.core
+invariant-loop-act g l = IsSound l.core

@@ -1,4 +1,4 @@
-//! A listener for a device that no listener joins.
+//! The listener type of a device that no listener joins.
 
 ghost use Rattle.std.specs.Prelude.{[], None};
 
@@ -7,9 +7,9 @@ use evac_model::BlockNo;
 
 /// A listener that maps nothing, and can be told of no block. None is ever made: no listener joins a device yet.
 #[derive(Debug, Drop)]
-pub struct Deaf;
+pub struct NoListener;
 
-impl Listener for Deaf {
+impl Listener for NoListener {
     ghost mapped = { λ _. [] };
 
     ghost refusals = { λ _. 0 };

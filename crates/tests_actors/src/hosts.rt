@@ -1,11 +1,12 @@
 //! Commands of hosts, with the actions of each counted by hand.
 
-use crate::owners::NOBODY;
+use crate::NOBODY;
 use core_actors::{Action, DeviceCall, DeviceHeard, Heard, Host, SpaceCall};
 use evac_model::{
     BlockNo, CommandList, Config, Geometry, HostCommand, HostLine, HostResult, RequestBytes,
     Response,
 };
+use std::process::Abort;
 use std::test::Fail;
 
 /// A request of a type for a range, whose address is below 2^16, and whose count is below 256.
@@ -74,6 +75,16 @@ const DONE: Response = Response::Ack { state: 0 };
 
 const MIXED: Response = Response::Ack { state: 2 };
 
+/// Tells the host what it hears, row by row, and compares what it does and the line that it gives with what is
+/// wanted. It gives the line once.
+fn follow(rt: &impl Abort, host: &mut Host, table: &[(Heard, Action, Option<HostLine>)]) {
+    for (heard, action, line) in table {
+        assert_eq!(rt; host.next(*heard, NOBODY), *action);
+        assert_eq!(rt; host.line(), *line);
+        assert_eq!(rt; host.line(), None);
+    }
+}
+
 #[test]
 fn a_plug_that_is_done_puts_its_blocks_online(rt: HostRuntime) -> Result<(), Fail> {
     let commands = vec![in rt.alloc();
@@ -105,11 +116,7 @@ fn a_plug_that_is_done_puts_its_blocks_online(rt: HostRuntime) -> Result<(), Fai
         ),
         (Heard::Nothing, Action::Ended, None),
     ];
-    for (heard, action, line) in table {
-        assert_eq!(rt; host.next(heard, NOBODY), action);
-        assert_eq!(rt; host.line(), line);
-        assert_eq!(rt; host.line(), None);
-    }
+    follow(&rt, &mut host, &table);
     Ok(())
 }
 
@@ -117,9 +124,11 @@ fn a_plug_that_is_done_puts_its_blocks_online(rt: HostRuntime) -> Result<(), Fai
 fn a_host_without_commands_has_ended(rt: HostRuntime) -> Result<(), Fail> {
     let g = Geometry::new(2, 4, 2, 4, 2, 8)?;
     let mut host = Host::new(g, CommandList::from_vec(Vec::new(rt.alloc())));
-    for heard in [Heard::Start, Heard::Nothing, answered(DONE)] {
-        assert_eq!(rt; host.next(heard, NOBODY), Action::Ended);
-        assert_eq!(rt; host.line(), None);
-    }
+    let table = [
+        (Heard::Start, Action::Ended, None),
+        (Heard::Nothing, Action::Ended, None),
+        (answered(DONE), Action::Ended, None),
+    ];
+    follow(&rt, &mut host, &table);
     Ok(())
 }

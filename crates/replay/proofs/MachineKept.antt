@@ -2,7 +2,6 @@
 use Rattle.std.proofs.Common.{◌≡◌, ℕ, zero, suc, ◌+◌, List, [], ◌∷◌, slice_get, refl, sym, ap, ◌∙◌, subst, arith, Option, Some, None}
 use Rattle.std.proofs.lemmas.Option.{none-some, same_Some}
 use Rattle.evac_model.specs.declared.call.Call.{Call}
-use Rattle.evac_model.specs.declared.call.Call.TheVariants.{Alloc, Free, Read, Write, Add, Pin, Unpin}
 use Rattle.evac_model.specs.declared.entry.Entry.{Entry}
 use Rattle.evac_model.specs.declared.names.FrameNo.{FrameNo}
 use Rattle.evac_model.specs.declared.names.PageNo.{PageNo}
@@ -17,6 +16,7 @@ use Rattle.replay.specs.CallsMade.{made_under_way, owed, IsRefusedNow, AreOwners
 use Rattle.replay.specs.Keeping.{IsKept}
 use Rattle.replay.specs.Machine.{Machine, after_turn}
 use Rattle.replay.specs.Runs.{owners_from, setting, machine_at_start}
+use Rattle.replay.proofs.CallEnds.{waits, not_refused}
 use Rattle.replay.proofs.CallTurns.{calls_made}
 use Rattle.replay.proofs.FrameTurns.{frames_placed}
 use Rattle.replay.proofs.HostRuns.{host_kept, host_kept_at_start}
@@ -36,35 +36,15 @@ asked_nothing cells k [] i a at = absurd (none-some a at)
 asked_nothing cells k (c ∷ cs) zero a at = subst (λ (b : OwnerState). HasAskedNothing b) (same_Some (owner_at_start k cells c) a at) (record { lease = refl; back = refl })
 asked_nothing cells k (c ∷ cs) (suc i) a at = asked_nothing cells (k + 1) cs i a at
 
-none_under_way : (who : ℕ) (calls : List (PageNo × Call)) → made_under_way who calls NotAsked ≡ []
-none_under_way who [] = refl
-none_under_way who ((page, Alloc kind) ∷ cs) = refl
-none_under_way who ((page, Free) ∷ cs) = refl
-none_under_way who ((page, Read first count) ∷ cs) = refl
-none_under_way who ((page, Write first values) ∷ cs) = refl
-none_under_way who ((page, Add cell value) ∷ cs) = refl
-none_under_way who ((page, Pin) ∷ cs) = refl
-none_under_way who ((page, Unpin) ∷ cs) = refl
-
-none_refused : (s : Scenario) (who : ℕ) (entries : List Entry) (calls : List (PageNo × Call)) → IsRefusedNow s [] who entries calls NotAsked
-none_refused s who entries [] = tt
-none_refused s who entries ((page, Alloc kind) ∷ cs) = tt
-none_refused s who entries ((page, Free) ∷ cs) = tt
-none_refused s who entries ((page, Read first count) ∷ cs) = tt
-none_refused s who entries ((page, Write first values) ∷ cs) = tt
-none_refused s who entries ((page, Add cell value) ∷ cs) = tt
-none_refused s who entries ((page, Pin) ∷ cs) = tt
-none_refused s who entries ((page, Unpin) ∷ cs) = tt
-
 none_made : (s : Scenario) (who : ℕ) (a : OwnerState) → HasAskedNothing a → AreOwnersCallsMade s [] who a []
 none_made s who a h = record {
   made = record {
     ended = [];
     made = refl;
-    whole = ap (λ (f : Option FrameNo). owed who f) h.back ∙ sym (ap (λ (l : LeaseSeen). made_under_way who a.left l) h.lease ∙ none_under_way who a.left);
+    whole = ap (λ (f : Option FrameNo). owed who f) h.back ∙ sym (ap (λ (l : LeaseSeen). made_under_way who a.left l) h.lease ∙ waits who a.left);
   };
   refused = λ e kind at there is reply. absurd (let lt = there.1 in omega arith);
-  now = subst (λ (l : LeaseSeen). IsRefusedNow s [] who [] a.left l) (sym h.lease) (none_refused s who [] a.left);
+  now = subst (λ (l : LeaseSeen). IsRefusedNow s [] who [] a.left l) (sym h.lease) (not_refused s [] who [] a.left);
 }
 
 calls_at_start : (s : Scenario) → IsRunnable s → AreCallsMade s (machine_at_start s)

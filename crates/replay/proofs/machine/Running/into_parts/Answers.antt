@@ -3,7 +3,7 @@ use Rattle.replay.specs.Machine.{Run}
 use Rattle.replay.specs.Runs.{AllEnded}
 use Rattle.replay.specs.RunningInside.{machine_of}
 use Rattle.replay.proofs.Left.{each_ticket, maps_inside}
-use Rattle.replay.proofs.machine.Running.into_core.Goals as goal
+use Rattle.replay.proofs.machine.Running.into_parts.Goals as goal
 
 pub returns-clause-words : goal.returns-clause-words
 returns-clause-words c =

@@ -2,18 +2,12 @@
 
 ghost use Rattle.std.specs.Prelude.{◌≡◌, ◌∷◌, []};
 
-use core_actors::{Action, Heard, Others, Owner, SpaceCall};
+use crate::{NOBODY, two};
+use core_actors::{Action, Heard, Owner, SpaceCall};
 use core_state::{CallDone, MoveStep, Step};
-use evac_model::{Call, CallList, Cells, FrameNo, Geometry, Kind, PageNo, Reply};
+use evac_model::{Call, CallList, FrameNo, Geometry, Kind, PageNo, Reply};
+use std::process::Abort;
 use std::test::Fail;
-
-pub(crate) const NOBODY: Others = Others {
-    owners_ended: false,
-    host_ended: false,
-    passes_made: false,
-    final_due: false,
-    final_made: false,
-};
 
 // A free page, mapped to frame 3, without pins, with bound 2: 4 + 3 * 1024 + 2 * 2^30.
 const MAPPED: u64 = 2_147_486_724;
@@ -24,9 +18,13 @@ const PAGE: PageNo = PageNo(1);
 
 const FRAME: FrameNo = FrameNo(3);
 
-const TAKE: Step = Step::Take { page: PAGE };
+const TAKE: Action = Action::Step(Step::Take { page: PAGE });
 
-const MARK: Step = Step::Mark { frame: FRAME };
+const DRAW: Action = Action::Step(Step::Draw);
+
+const MARK: Action = Action::Step(Step::Mark { frame: FRAME });
+
+const UNMAP: Action = Action::Move(MoveStep::Unmap);
 
 // The frame that is leased.
 const LEASED: FrameNo = FrameNo(1);
@@ -34,6 +32,8 @@ const LEASED: FrameNo = FrameNo(1);
 const ALLOC: Call = Call::Alloc {
     kind: Kind::Unmovable,
 };
+
+const MARK_LEASED: Action = Action::Step(Step::Mark { frame: LEASED });
 
 const LEASE: Action = Action::Space(SpaceCall::Lease {
     page: PAGE,
@@ -49,16 +49,6 @@ const READ: Call = Call::Read { first: 1, count: 2 };
 
 const ADD: Call = Call::Add { cell: 3, value: 9 };
 
-/// Two numbers as cells.
-fn two(first: u64, second: u64) -> Cells
-    ensures { result ≡ first ∷ second ∷ [] }
-{
-    let mut values = Cells::new();
-    values.push(first);
-    values.push(second);
-    values
-}
-
 /// A write of two cells.
 fn write() -> Call
     ensures { result ≡ Call.Write 1 (7 ∷ 8 ∷ []) }
@@ -70,23 +60,23 @@ fn write() -> Call
 }
 
 /// The release of a call.
-fn release(call: Call, reply: Reply) -> Step {
+fn release(call: Call, reply: Reply) -> Action {
     let done = Some(CallDone { call, reply });
-    Step::Release { done }
+    Action::Step(Step::Release { done })
+}
+
+/// A load.
+fn load(cell: u32) -> Action {
+    Action::Step(Step::Load { cell })
 }
 
 /// A store in the page's frame.
-fn store(cell: u32, value: u64) -> Step {
-    Step::Store {
+fn store(cell: u32, value: u64) -> Action {
+    Action::Step(Step::Store {
         frame: FRAME,
         cell,
         value,
-    }
-}
-
-/// The release of a call, as an action.
-fn ended(call: Call, reply: Reply) -> Action {
-    Action::Step(release(call, reply))
+    })
 }
 
 /// A store of 0 in the frame that was leased.
@@ -103,6 +93,15 @@ fn back(frame: FrameNo) -> Action {
     Action::Space(SpaceCall::Return { frame })
 }
 
+/// Tells the owner what it hears, row by row, and compares what it does with what is wanted. It hasn't ended
+/// before any of them.
+fn follow(rt: &impl Abort, owner: &mut Owner, table: &[(Heard, Action)]) {
+    for (heard, want) in table {
+        assert!(rt; !owner.has_ended());
+        assert_eq!(rt; owner.next(*heard, NOBODY), *want);
+    }
+}
+
 #[test]
 fn steps_of_a_write_a_read_and_an_add(rt: HostRuntime) -> Result<(), Fail> {
     let g = Geometry::new(4, 2, 2, 1, 1, 4)?;
@@ -112,27 +111,24 @@ fn steps_of_a_write_a_read_and_an_add(rt: HostRuntime) -> Result<(), Fail> {
         (Heard::Start, TAKE),
         (Heard::Word(MAPPED + 1), TAKE),
         (Heard::Word(MAPPED + 1), TAKE),
-        (Heard::Word(MAPPED), Step::Draw),
+        (Heard::Word(MAPPED), DRAW),
         (Heard::Word(2), store(1, 7)),
         (Heard::Nothing, store(2, 8)),
         (Heard::Nothing, MARK),
         (Heard::Nothing, release(write(), Reply::Done)),
         (Heard::Nothing, TAKE),
-        (Heard::Word(MAPPED), Step::Draw),
-        (Heard::Word(3), Step::Load { cell: 1 }),
-        (Heard::Word(7), Step::Load { cell: 2 }),
+        (Heard::Word(MAPPED), DRAW),
+        (Heard::Word(3), load(1)),
+        (Heard::Word(7), load(2)),
         (Heard::Word(8), release(READ, Reply::Values(two(7, 8)))),
         (Heard::Nothing, TAKE),
-        (Heard::Word(MAPPED), Step::Draw),
-        (Heard::Word(4), Step::Load { cell: 3 }),
+        (Heard::Word(MAPPED), DRAW),
+        (Heard::Word(4), load(3)),
         (Heard::Word(u64::MAX - 3), store(3, 5)),
         (Heard::Nothing, MARK),
         (Heard::Nothing, release(ADD, Reply::Old(u64::MAX - 3))),
     ];
-    for (heard, step) in table {
-        assert!(rt; !owner.has_ended());
-        assert_eq!(rt; owner.next(heard, NOBODY), Action::Step(step));
-    }
+    follow(&rt, &mut owner, &table);
     assert!(rt; owner.has_ended());
     assert_eq!(rt; owner.next(Heard::Nothing, NOBODY), Action::Ended);
     assert!(rt; owner.has_ended());
@@ -167,12 +163,12 @@ fn pins_and_refusals_have_three_steps(rt: HostRuntime) -> Result<(), Fail> {
     ];
     let mut last = Heard::Start;
     for (word, end) in table {
-        assert_eq!(rt; owner.next(last, NOBODY), Action::Step(TAKE));
-        assert_eq!(rt;
-            owner.next(Heard::Word(word), NOBODY),
-            Action::Step(Step::Draw)
-        );
-        assert_eq!(rt; owner.next(Heard::Word(2), NOBODY), Action::Step(end));
+        let table = [
+            (last, TAKE),
+            (Heard::Word(word), DRAW),
+            (Heard::Word(2), end),
+        ];
+        follow(&rt, &mut owner, &table);
         last = Heard::Nothing;
     }
     assert!(rt; owner.has_ended());
@@ -188,33 +184,30 @@ fn allocs_lease_a_frame(rt: HostRuntime) -> Result<(), Fail> {
         (Heard::Start, LEASE),
         (Heard::Leased(LEASED), zero(0)),
         (Heard::Nothing, zero(1)),
-        (Heard::Nothing, Action::Step(Step::Mark { frame: LEASED })),
-        (Heard::Nothing, Action::Step(TAKE)),
-        (Heard::Word(UNMAPPED + 1), Action::Step(TAKE)),
-        (Heard::Word(UNMAPPED), Action::Step(Step::Draw)),
+        (Heard::Nothing, MARK_LEASED),
+        (Heard::Nothing, TAKE),
+        (Heard::Word(UNMAPPED + 1), TAKE),
+        (Heard::Word(UNMAPPED), DRAW),
         (Heard::Word(2), MAP),
-        (Heard::Nothing, ended(ALLOC, Reply::Done)),
+        (Heard::Nothing, release(ALLOC, Reply::Done)),
         (Heard::Nothing, LEASE),
-        (Heard::NoFrame(9), Action::Step(TAKE)),
-        (Heard::Word(MAPPED), Action::Step(Step::Draw)),
-        (Heard::Word(3), ended(ALLOC, Reply::Mapped)),
+        (Heard::NoFrame(9), TAKE),
+        (Heard::Word(MAPPED), DRAW),
+        (Heard::Word(3), release(ALLOC, Reply::Mapped)),
         (Heard::Nothing, LEASE),
-        (Heard::NoFrame(9), Action::Step(TAKE)),
-        (Heard::Word(UNMAPPED), Action::Step(Step::Draw)),
-        (Heard::Word(4), ended(ALLOC, Reply::NoFrame { at: 9 })),
+        (Heard::NoFrame(9), TAKE),
+        (Heard::Word(UNMAPPED), DRAW),
+        (Heard::Word(4), release(ALLOC, Reply::NoFrame { at: 9 })),
         (Heard::Nothing, LEASE),
         (Heard::Leased(LEASED), zero(0)),
         (Heard::Nothing, zero(1)),
-        (Heard::Nothing, Action::Step(Step::Mark { frame: LEASED })),
-        (Heard::Nothing, Action::Step(TAKE)),
-        (Heard::Word(MAPPED), Action::Step(Step::Draw)),
-        (Heard::Word(5), ended(ALLOC, Reply::Mapped)),
+        (Heard::Nothing, MARK_LEASED),
+        (Heard::Nothing, TAKE),
+        (Heard::Word(MAPPED), DRAW),
+        (Heard::Word(5), release(ALLOC, Reply::Mapped)),
         (Heard::Nothing, back(LEASED)),
     ];
-    for (heard, action) in table {
-        assert!(rt; !owner.has_ended());
-        assert_eq!(rt; owner.next(heard, NOBODY), action);
-    }
+    follow(&rt, &mut owner, &table);
     assert!(rt; owner.has_ended());
     assert_eq!(rt; owner.next(Heard::Nothing, NOBODY), Action::Ended);
     Ok(())
@@ -231,25 +224,22 @@ fn frees_give_the_frame_back(rt: HostRuntime) -> Result<(), Fail> {
     ]?;
     let mut owner = Owner::new(g, 1, CallList::from_vec(calls));
     let table = [
-        (Heard::Start, Action::Step(TAKE)),
-        (Heard::Word(MAPPED + 16), Action::Step(Step::Draw)),
-        (Heard::Word(2), ended(Call::Free, Reply::Pinned)),
-        (Heard::Nothing, Action::Step(TAKE)),
-        (Heard::Word(MAPPED), Action::Step(Step::Draw)),
-        (Heard::Word(3), Action::Move(MoveStep::Unmap)),
-        (Heard::Nothing, ended(Call::Free, Reply::Done)),
+        (Heard::Start, TAKE),
+        (Heard::Word(MAPPED + 16), DRAW),
+        (Heard::Word(2), release(Call::Free, Reply::Pinned)),
+        (Heard::Nothing, TAKE),
+        (Heard::Word(MAPPED), DRAW),
+        (Heard::Word(3), UNMAP),
+        (Heard::Nothing, release(Call::Free, Reply::Done)),
         (Heard::Nothing, back(FRAME)),
-        (Heard::Nothing, Action::Step(TAKE)),
-        (Heard::Word(UNMAPPED), Action::Step(Step::Draw)),
-        (Heard::Word(4), ended(Call::Free, Reply::NotMapped)),
-        (Heard::Nothing, Action::Step(TAKE)),
-        (Heard::Word(UNMAPPED), Action::Step(Step::Draw)),
-        (Heard::Word(5), ended(Call::Pin, Reply::NotMapped)),
+        (Heard::Nothing, TAKE),
+        (Heard::Word(UNMAPPED), DRAW),
+        (Heard::Word(4), release(Call::Free, Reply::NotMapped)),
+        (Heard::Nothing, TAKE),
+        (Heard::Word(UNMAPPED), DRAW),
+        (Heard::Word(5), release(Call::Pin, Reply::NotMapped)),
     ];
-    for (heard, action) in table {
-        assert!(rt; !owner.has_ended());
-        assert_eq!(rt; owner.next(heard, NOBODY), action);
-    }
+    follow(&rt, &mut owner, &table);
     assert!(rt; owner.has_ended());
     Ok(())
 }

@@ -1,0 +1,5 @@
+use Rattle.core_state.specs.CoreState.{IsSound}
+use Rattle.tests_steps.proofs.play.make_some.Given as goal
+
+abbrev pub invariant-loop-act : goal.invariant-loop-act
+invariant-loop-act l = IsSound l.core
