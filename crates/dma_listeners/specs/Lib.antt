@@ -1,1 +1,5 @@
 pub mod Slates
+pub mod Drafts
+pub mod DmaMaps
+pub mod Listening
+pub mod Registries

@@ -7,14 +7,22 @@
 #![tactic(auto)]
 
 mod backing;
+mod blocks;
+mod dma_map;
+mod draft;
+mod each;
 mod fault;
+mod laws;
 mod listener;
 mod registry;
 mod slate;
 
 pub use backing::Backing;
-pub use evac_model::{BlockNo, Failed, NumberList};
-pub use fault::Refused;
+pub use dma_map::DmaMap;
+pub use draft::NoticeDraft;
+pub use evac_model::{BlockNo, Failed, Notice, Notices, NumberList, OutOfMemory, Told};
+pub use fault::{JoinFault, Refused, RefusedBy};
+pub use laws::{plug_notices_map, refused_notices_map_nothing, unplug_notices_discard};
 pub use listener::Listener;
 pub use registry::Registry;
 pub use slate::{Slate, SureSlate};

@@ -5,10 +5,12 @@ use std::test::Fail;
 
 #[test]
 fn a_slate_fails_at_the_listed_calls(rt: HostRuntime) -> Result<(), Fail> {
-    let fails = NumberList::from_vec([2, 4, 9].as_slice().to_vec(rt.alloc())?);
-    let mut slate = Slate::new(fails);
-    for want in [Ok(()), Err(Failed), Ok(()), Err(Failed), Ok(())] {
-        assert_eq!(rt; slate.discard(BlockNo(0), 1), want);
+    // in their order, in another one, and listed again
+    for fails in [[2, 4, 9, 9], [9, 4, 0, 2], [4, 2, 4, 2]] {
+        let mut slate = Slate::new(NumberList::from_vec(fails.as_slice().to_vec(rt.alloc())?));
+        for want in [Ok(()), Err(Failed), Ok(()), Err(Failed), Ok(())] {
+            assert_eq!(rt; slate.discard(BlockNo(0), 1), want);
+        }
     }
     Ok(())
 }
