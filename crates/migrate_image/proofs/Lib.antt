@@ -1,0 +1,5 @@
+pub mod Fields
+pub mod Limits
+pub mod Loops
+pub mod Images
+pub mod Whole
