@@ -1,0 +1,6 @@
+use Rattle.std.proofs.Common.{◌≡◌}
+use Rattle.evac_model.specs.Numbers.{is_in, numbers_where}
+use Rattle.resize.proofs.goal.plugged_blocks.Given as goal
+
+abbrev pub invariant-loop-b : goal.invariant-loop-b
+invariant-loop-b l = l.blocks.items ≡ numbers_where (λ b. is_in b l.map.plugged) l.b

@@ -1,0 +1,4 @@
+pub mod Tries
+pub mod Trying
+pub mod ResizeInside
+pub mod UnderWay

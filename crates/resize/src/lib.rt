@@ -1,0 +1,22 @@
+//! A resize: a machine that is told what each action gave, and says the next one. It plugs or unplugs
+//! managed blocks, one by one, until a size is reached, after Linux's virtio_mem driver.
+#![tactic(auto)]
+
+mod action;
+mod goal;
+mod resize;
+mod seen;
+mod stage;
+mod tried;
+
+pub use action::ResizeAction;
+pub use block_map::BlockMap;
+pub use evac_model::{BlockNo, Geometry, OutOfMemory};
+pub use evacuate::EvacCause;
+pub use mem_codec::Response;
+pub use resize::Resize;
+pub use seen::ResizeSeen;
+pub use tried::{Tried, TriedList, TriedResult};
+
+#[cfg(test)]
+mod tests;
