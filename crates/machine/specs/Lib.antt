@@ -1,0 +1,6 @@
+pub mod World
+pub mod Made
+pub mod Consistent
+pub mod MayMake
+pub mod Start
+pub mod MachineInside

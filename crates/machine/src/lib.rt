@@ -1,0 +1,18 @@
+//! The machine: the words and the views, the frame space, the memory device and the blocks that the driver holds,
+//! and the one function by which every actor changes them.
+#![tactic(auto)]
+
+mod action;
+mod allowed;
+mod device_calls;
+mod laws;
+mod machine;
+mod no_listener;
+mod open;
+mod parts;
+mod space_calls;
+mod steps;
+
+pub use action::{Action, DeviceCall, DeviceHeard, Heard, SpaceCall};
+pub use laws::{actions_keep_consistency, mapped_pages_are_plugged, starts_are_consistent};
+pub use machine::{Journals, Machine};

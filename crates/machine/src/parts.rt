@@ -1,0 +1,20 @@
+//! The parts of a machine.
+
+use crate::no_listener::NoListener;
+use core_state::Core;
+use mem_device::{BlockHand, Device, SureSlate};
+use space::Space;
+
+/// The memory device of a machine: no listener joins it yet, and its backing never fails.
+pub(crate) type MachineDevice = Device<NoListener, SureSlate, BlockHand>;
+
+/// The words and the views, the frame space, the memory device, the blocks that the driver holds, and the number of
+/// owners.
+#[derive(Drop)]
+pub(crate) struct Parts {
+    pub(crate) core: Core,
+    pub(crate) space: Space,
+    pub(crate) device: MachineDevice,
+    pub(crate) held: BlockHand,
+    pub(crate) owners: u32,
+}
