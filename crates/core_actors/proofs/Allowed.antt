@@ -23,9 +23,9 @@ use Rattle.core_state.specs.Steps.{MayTake, MayEnd, Allowed}
 use Rattle.core_state.specs.MoveSteps.{MayMap, MayUnmap, InHand, AllowedMove}
 use Rattle.core_state.specs.HandOvers.{IsAtRest}
 use Rattle.core_state.proofs.EntryWords.{same_flags-take}
-use Rattle.core_actors.specs.declared.action.Action.TheVariants as actions
+use Rattle.machine.specs.declared.action.Action.TheVariants as actions
+use Rattle.machine.specs.declared.action.SpaceCall.TheVariants.{Lease, Return}
 use Rattle.core_actors.specs.declared.action.LeaseSeen.{LeaseSeen}
-use Rattle.core_actors.specs.declared.action.SpaceCall.TheVariants.{Lease, Return}
 use Rattle.core_actors.specs.declared.place.Place.{Place}
 use Rattle.core_actors.specs.declared.place.Place.TheVariants.{Between, InCall}
 use Rattle.core_actors.specs.declared.place.CallPlace.{CallPlace}
@@ -54,7 +54,7 @@ some_in : {A : Type 0} (P Q : A → Type 0) (x : Option A) → ((y : A) → P y 
 some_in P Q None f some = some
 some_in P Q (Some y) f some = f y some
 
-some_if : {A : Type 0} (P : A → Type 0) (x : Option A) → IsSomeAnd x P → IsSome x
+pub some_if : {A : Type 0} (P : A → Type 0) (x : Option A) → IsSomeAnd x P → IsSome x
 some_if P None some = absurd some
 some_if P (Some x) some = refl
 

@@ -1,20 +1,25 @@
 -- Where an owner asks the frame space, and what it never asks.
-use Rattle.std.proofs.Common.{◌≡◌, ◌↔◌, ℕ, true, List, [], ◌∷◌, refl, ap, Some, None}
+use Rattle.std.specs.Prelude.{⊤}
+use Rattle.std.proofs.Common.{◌≡◌, ◌≢◌, ◌↔◌, ℕ, true, false, List, [], ◌∷◌, refl, ap, subst, Some, None}
+use Rattle.evac_model.specs.declared.names.BlockNo.{BlockNo}
 use Rattle.evac_model.specs.declared.names.FrameNo.{FrameNo}
 use Rattle.evac_model.specs.declared.names.Kind.{Kind}
 use Rattle.evac_model.specs.declared.names.PageNo.{PageNo}
 use Rattle.evac_model.specs.declared.call.Call.{Call}
 use Rattle.evac_model.specs.declared.call.Call.TheVariants.{Alloc, Free, Read, Write, Add, Pin, Unpin}
 use Rattle.core_state.specs.declared.step.MoveStep.{MoveStep}
-use Rattle.core_actors.specs.declared.action.Action.TheVariants as actions
-use Rattle.core_actors.specs.declared.action.SpaceCall.{SpaceCall}
-use Rattle.core_actors.specs.declared.action.SpaceCall.TheVariants.{Lease, Return}
+use Rattle.machine.specs.declared.action.Action.{Action}
+use Rattle.machine.specs.declared.action.Action.TheVariants as actions
+use Rattle.machine.specs.declared.action.DeviceCall.{DeviceCall}
+use Rattle.machine.specs.declared.action.SpaceCall.{SpaceCall}
+use Rattle.machine.specs.declared.action.SpaceCall.TheVariants.{Lease, Return, Online}
 use Rattle.core_actors.specs.declared.place.Place.{Place}
 use Rattle.core_actors.specs.declared.place.Place.TheVariants.{Between, InCall}
 use Rattle.core_actors.specs.declared.place.CallPlace.{CallPlace}
 use Rattle.core_actors.specs.declared.place.CallPlace.TheVariants.{Zero, MarkZeros, Take, Draw, Load, Store, Mark, Map, Unmap, Release}
 use Rattle.core_actors.specs.Places.{first_action, action_at}
 use Rattle.core_actors.specs.Owners.{OwnerState, action_in, owner_ended, next_action}
+use Rattle.core_actors.proofs.Cases.{by_test}
 
 -- a call begins with no step on the mapping
 pub first_moves : (page : PageNo) (call : Call) (step : MoveStep) → first_action (page, call) ≡ actions.Move step → ⊥
@@ -111,3 +116,58 @@ ended_at owner cells (InCall at) (c ∷ cs) = ((λ e. absurd (place_goes c at e)
 -- the owner makes no action just where it has ended
 pub ended_told : (a : OwnerState) → (next_action a ≡ actions.Ended) ↔ (owner_ended a ≡ true)
 ended_told a = ended_at a.owner a.cells a.place a.left
+
+-- ---- which actions it makes
+
+-- a step, a lease or a return
+abbrev pub IsOwners : Action → Type 0
+IsOwners (actions.Step step) = ⊤
+IsOwners (actions.Move step) = ⊤
+IsOwners (actions.Space (Lease page kind)) = ⊤
+IsOwners (actions.Space (Return frame)) = ⊤
+IsOwners (actions.Space (Online block)) = ⊥
+IsOwners (actions.Device call) = ⊥
+IsOwners actions.Ended = ⊥
+
+first_owners : (c : PageNo × Call) → IsOwners (first_action c)
+first_owners (page, Alloc kind) = tt
+first_owners (page, Free) = tt
+first_owners (page, Read first count) = tt
+first_owners (page, Write first values) = tt
+first_owners (page, Add cell value) = tt
+first_owners (page, Pin) = tt
+first_owners (page, Unpin) = tt
+
+place_owners : (c : PageNo × Call) (at : CallPlace) → IsOwners (action_at c at)
+place_owners c (Zero frame cell) = tt
+place_owners c (MarkZeros frame) = tt
+place_owners c (Take lease) = tt
+place_owners c (Draw lease found) = tt
+place_owners c (Load found loads) = tt
+place_owners c (Store found loads i) = tt
+place_owners c (Mark found loads) = tt
+place_owners c (Map frame kind found) = tt
+place_owners c (Unmap found) = tt
+place_owners c (Release lease found loads) = tt
+
+owners_in : (a : OwnerState) (place : Place) (left : List (PageNo × Call)) → owner_ended (record a { left = left; place = place }) ≡ false → IsOwners (action_in place left)
+owners_in a (Between (Some frame)) left going = tt
+owners_in a (Between None) [] going = absurd cc
+owners_in a (Between None) (c ∷ cs) going = first_owners c
+owners_in a (InCall at) [] going = absurd cc
+owners_in a (InCall at) (c ∷ cs) going = place_owners c at
+
+-- an owner that hasn't ended makes one of these
+pub owners_action : (a : OwnerState) (x : Action) → owner_ended a ≡ false → next_action a ≡ x → IsOwners x
+owners_action a x going is = subst IsOwners is (owners_in a a.place a.left going)
+
+-- it puts no block online, and asks nothing of the device
+pub no_online : (a : OwnerState) (block : BlockNo) → next_action a ≢ actions.Space (Online block)
+no_online a block is = by_test (owner_ended a)
+    (λ ended. let none = (ended_told a).1 ended in cc)
+    (λ going. owners_action a (actions.Space (Online block)) going is)
+
+pub no_device : (a : OwnerState) (call : DeviceCall) → next_action a ≢ actions.Device call
+no_device a call is = by_test (owner_ended a)
+    (λ ended. let none = (ended_told a).1 ended in cc)
+    (λ going. owners_action a (actions.Device call) going is)

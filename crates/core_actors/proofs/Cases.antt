@@ -2,7 +2,7 @@
 use Rattle.std.proofs.Common.{◌≡◌, Bool, true, false, if◌then◌else◌, refl, subst}
 use Rattle.core_state.specs.declared.step.MoveStep.{MoveStep}
 use Rattle.core_state.specs.declared.step.Step.{Step}
-use Rattle.core_actors.specs.declared.action.Action.TheVariants as actions
+use Rattle.machine.specs.declared.action.Action.TheVariants as actions
 
 -- what holds either way
 pub if_then : {A : Type 0} (P : A → Type 0) (b : Bool) (x y : A) → (b ≡ true → P x) → (b ≡ false → P y) → P (if b then x else y)

@@ -1,5 +1,5 @@
 -- An owner's view fits its place in the script after its next action, whichever that is.
-use Rattle.std.proofs.Common.{◌≡◌, ℕ, eqb-true, ◌+◌, ◌<◌, ◌==◌, List, [], ◌∷◌, ◌++◌, map, length, length-append, length-set, append_assoc, get_or, refl, sym, ap, ◌∙◌, subst, arith, Option, Some, None, IsSomeAnd}
+use Rattle.std.proofs.Common.{◌≡◌, ℕ, eqb-true, ◌+◌, ◌<◌, ◌==◌, List, [], ◌∷◌, ◌++◌, map, length, length-append, length-set, append_assoc, get_or, refl, sym, ap, ◌∙◌, subst, arith, Option, Some, None}
 use Rattle.std.specs.List.{enumerate_from, AllByRecursion}
 use Rattle.std.proofs.lemmas.List.{map_push}
 use Rattle.evac_model.specs.declared.names.FrameNo.{FrameNo}
@@ -26,15 +26,17 @@ use Rattle.core_state.specs.declared.view.View.{View}
 use Rattle.core_state.specs.Pages.{number_or}
 use Rattle.core_state.specs.Views.{Has, IsSeated, hand_frame}
 use Rattle.core_state.specs.Sound.{Sound}
-use Rattle.core_state.specs.Steps.{held_page, newly_held, entry_of, with_hand_store, view_after}
+use Rattle.core_state.specs.Steps.{newly_held, entry_of, with_hand_store, view_after}
 use Rattle.core_state.specs.MoveSteps.{hand_after_unmap, view_after_move}
 use Rattle.core_state.specs.HandOvers.{MayHandOver, hand_without, hand_with}
 use Rattle.core_state.proofs.MovePlaces.{old_low}
-use Rattle.core_actors.specs.declared.action.Action.TheVariants as actions
-use Rattle.core_actors.specs.declared.action.Heard.TheVariants as heards
+use Rattle.machine.specs.declared.action.Action.TheVariants as actions
+use Rattle.machine.specs.declared.action.Heard.TheVariants as heards
+use Rattle.machine.specs.declared.action.SpaceCall.TheVariants.{Lease, Return}
+use Rattle.machine.specs.Made.{heard_by}
+use Rattle.machine.proofs.OneFrame.{within, hand_without_one, hand_with_one}
 use Rattle.core_actors.specs.declared.action.LeaseSeen.{LeaseSeen}
 use Rattle.core_actors.specs.declared.action.LeaseSeen.TheVariants.{NotAsked, Got, Refused}
-use Rattle.core_actors.specs.declared.action.SpaceCall.TheVariants.{Lease, Return}
 use Rattle.core_actors.specs.declared.place.Place.{Place}
 use Rattle.core_actors.specs.declared.place.Place.TheVariants.{Between, InCall}
 use Rattle.core_actors.specs.declared.place.CallPlace.{CallPlace}
@@ -42,14 +44,12 @@ use Rattle.core_actors.specs.declared.place.CallPlace.TheVariants.{Zero, MarkZer
 use Rattle.core_actors.specs.CallSteps.{first_cell, values_of, leased_frame, reply_of}
 use Rattle.core_actors.specs.Places.{frame_in, action_at, zero_from, behind_take, store_from, load_from, behind_draw}
 use Rattle.core_actors.specs.Owners.{OwnerState, next_action, owner_after}
-use Rattle.core_actors.specs.Actions.{heard_by}
 use Rattle.core_actors.specs.Counts.{IsUnderWay}
-use Rattle.core_actors.specs.Fits.{SeatHas, page_done, has_at, IsHeldAs, IsZeroed, IsSeatWith, Fits}
+use Rattle.core_actors.specs.Fits.{SeatHas, page_done, has_at, IsZeroed, IsSeatWith, Fits}
 use Rattle.core_actors.proofs.Cases.{if_two, with_move, with_step}
 use Rattle.core_actors.proofs.UnderWay.{stays_under_way}
 use Rattle.core_actors.proofs.Asks.{first_moves, leases_at, returns_at}
-use Rattle.core_actors.proofs.HandSteps.{within, hand_without_one, hand_with_one}
-use Rattle.core_actors.proofs.HeldCells.{loads_within, stores_within}
+use Rattle.core_actors.proofs.HeldCells.{loads_within, stores_within, held_page_is}
 use Rattle.core_actors.proofs.HasAt.{freed_page, has_zeros, has_stores, has_loads, has_done, has_drawn, mapped_done, unmapped_done}
 use Rattle.core_actors.proofs.SeatSteps.{sits_as, sits_take, sits_draw, sits_load, sits_store, sits_mark, sits_zero, sits_marked, sits_release, sits_map, sits_unmap, sits_leased, sits_returned}
 
@@ -96,16 +96,12 @@ module _ (s : Sizes) (o : Opening) (script : List (PageNo × Call)) (v : View) (
 
     -- ---- the release
 
-    page_in : (size : ℕ) (call : Call) (lease : LeaseSeen) (found : ℕ) (loads : List ℕ) (x : Option Held) → IsSomeAnd x (IsHeldAs size c (page_done call lease found loads)) → held_page x ≡ (c.0).0
-    page_in size call lease found loads None some = absurd some
-    page_in size call lease found loads (Some x) some = ap (λ (p : PageNo). p.0) some.page
-
     module _ (lease : LeaseSeen) (found : ℕ) (loads : List ℕ) (h : Fits s o script v (state (InCall (Release lease found loads)) (c ∷ cs))) where
       abbrev done : CallDone
       done = record { call = c.1; reply = reply_of lease found loads c.1 }
 
       entry_is : numbered_call (entry_of v done) ≡ (length v.entries, c)
-      entry_is = ap (λ (p : ℕ). (length v.entries, (record { 0 = p }, c.1))) (page_in o.cells c.1 lease found loads v.held h.has.held)
+      entry_is = ap (λ (p : ℕ). (length v.entries, (record { 0 = p }, c.1))) (held_page_is o.cells c (page_done c.1 lease found loads) v.held h.has.held)
 
       entries_pushed : map numbered_call (v.entries ++ entry_of v done ∷ []) ++ enumerate_from (length (v.entries ++ entry_of v done ∷ [])) cs ≡ enumerate_from 0 script
       entries_pushed =

@@ -1,5 +1,5 @@
 -- The frame that an owner has in hand after each kind of action.
-use Rattle.std.proofs.Common.{◌≡◌, ◌≢◌, ℕ, zero, suc, ◌+◌, ◌<◌, ◌≤◌, List, [], ◌∷◌, length, length-set, get_or, get_or-set_same, get_or-set_other, set, refl, sym, ap, ◌∙◌, subst, arith, Option, Some, None, IsSomeAnd}
+use Rattle.std.proofs.Common.{◌≡◌, ◌≢◌, ℕ, ◌+◌, ◌<◌, ◌≤◌, List, length, length-set, get_or, get_or-set_same, get_or-set_other, set, refl, sym, ap, ◌∙◌, subst, arith, Option, Some, None, IsSomeAnd}
 use Rattle.std.proofs.lemmas.List.{set-get_or}
 use mathlib.Core.Logic.{dite}
 use native.Mathlib.Decide.{ℕ_discrete}
@@ -8,34 +8,7 @@ use Rattle.core_state.specs.declared.hand.HandFrame.{HandFrame}
 use Rattle.core_state.specs.declared.view.View.{View}
 use Rattle.core_state.specs.Views.{hand_frame}
 use Rattle.core_state.specs.Steps.{with_hand_store}
-use Rattle.core_state.specs.HandOvers.{hand_without, hand_with}
-use Rattle.core_state.proofs.PassedFrames.{without_more, place_left, with_more, without_none, with_none}
 use Rattle.core_actors.specs.Fits.{IsZeroed, HasInHand}
-
--- ---- hands as lists
-
-pub within : (hand : List (Option HandFrame)) (f : ℕ) (P : HandFrame → Type 0) → IsSomeAnd (get_or hand f None) P → f < length hand
-within [] f P some = absurd (nothing f some)
-  where
-    nothing : (f : ℕ) → IsSomeAnd (get_or [] f None) P → ⊥
-    nothing f some = some
-within (y ∷ ys) zero P some = omega arith
-within (y ∷ ys) (suc f) P some = omega (arith, within ys f P some)
-
-pub hand_without_one : (hand : List (Option HandFrame)) (f : ℕ) → f < length hand → hand_without hand f 1 ≡ set hand f None
-hand_without_one hand f lt =
-    let e : f + 0 ≡ f = omega arith in
-    sym (without_more hand hand f 0 (omega arith) (omega arith))
-    ∙ (ap (λ (l : List (Option HandFrame)). set l (f + 0) None) (without_none hand f)
-    ∙ ap (λ (i : ℕ). set hand i None) e)
-
-pub hand_with_one : (given had : List (Option HandFrame)) (f : ℕ) → f < length given → f < length had → hand_with had given f 1 ≡ set had f (get_or given f None)
-hand_with_one given had f lt_given lt_had =
-    let e : f + 0 ≡ f = omega arith in
-    sym (with_more given had f 0 (omega arith) (omega arith))
-    ∙ (ap (λ (l : List (Option HandFrame)). set l (f + 0) (get_or (hand_without given f 0) (f + 0) None)) (with_none given had f)
-    ∙ (ap (λ (x : Option HandFrame). set had (f + 0) x) (place_left given had f 0 (omega arith) (omega arith))
-    ∙ ap (λ (i : ℕ). set had i (get_or given i None)) e))
 
 -- ---- a hand with one frame at most
 

@@ -1,13 +1,19 @@
--- The cells of a call are cells of its page.
-use Rattle.std.proofs.Common.{◌≡◌, ℕ, eqb, eq-eqb, ◌+◌, ◌≤◌, ◌==◌, Bool, true, List, length, bit_or, ap, ◌∙◌, arith, if◌then◌else◌}
+-- The page that is held is that of the call, and the cells of the call are cells of it.
+use Rattle.std.proofs.Common.{◌≡◌, ℕ, eqb, eq-eqb, ◌+◌, ◌≤◌, ◌==◌, Bool, true, List, length, bit_or, ap, ◌∙◌, arith, if◌then◌else◌, Option, Some, None, IsSomeAnd}
+use Rattle.evac_model.specs.declared.names.PageNo.{PageNo}
 use Rattle.evac_model.specs.declared.call.Call.{Call}
 use Rattle.evac_model.specs.declared.call.Call.TheVariants.{Alloc, Free, Read, Write, Add, Pin, Unpin}
 use Rattle.evac_model.specs.Geometry.{Sizes}
 use Rattle.evac_model.specs.Calls.{IsCallFor}
 use Rattle.evac_words.specs.Word.{mapped_bit, frame_of}
+use Rattle.core_state.specs.declared.held.Held.{Held}
+use Rattle.core_state.specs.Steps.{held_page}
 use Rattle.core_state.specs.Views.{maps_to}
 use Rattle.core_state.proofs.EntryWords.{same_flags-take}
 use Rattle.core_actors.specs.CallSteps.{first_cell, load_count, values_of}
+use Rattle.core_actors.specs.Fits.{PageHeld, IsHeldAs}
+
+-- ---- the cells of a call
 
 pub loads_few : (s : Sizes) (call : Call) → IsCallFor s call → load_count call ≤ 8
 loads_few s (Alloc kind) fits = omega arith
@@ -35,6 +41,12 @@ stores_within s loads (Write first values) fits = fits.2
 stores_within s loads (Add cell value) fits = omega arith
 stores_within s loads Pin fits = omega arith
 stores_within s loads Unpin fits = omega arith
+
+-- ---- the page that is held
+
+pub held_page_is : (cells : ℕ) (c : PageNo × Call) (p : PageHeld) (held : Option Held) → IsSomeAnd held (IsHeldAs cells c p) → held_page held ≡ (c.0).0
+held_page_is cells c p None some = absurd some
+held_page_is cells c p (Some h) some = ap (λ (q : PageNo). q.0) some.page
 
 -- the held word maps the frame that the take found
 pub maps_here : (w : ℕ) → mapped_bit w ≡ 1 → maps_to (frame_of w) (bit_or w 1) ≡ 1

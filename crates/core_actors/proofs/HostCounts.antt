@@ -13,7 +13,7 @@ use Rattle.evac_model.specs.Geometry.{Sizes}
 use Rattle.evac_model.specs.DeviceAnswer.{is_good_range, request_in}
 use Rattle.evac_model.specs.HostCommands.{BlockRange, plugged_by}
 use Rattle.evac_model.proofs.Bounds.{good_within}
-use Rattle.core_actors.specs.declared.action.Heard.{Heard}
+use Rattle.machine.specs.declared.action.Heard.{Heard}
 use Rattle.core_actors.specs.Hosts.{HostState, host_ended, result_in, plugged_in, with_result, but_first, host_after, host_actions_left, IsHostUnderWay}
 use Rattle.core_actors.proofs.Cases.{if_then}
 

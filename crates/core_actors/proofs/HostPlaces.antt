@@ -1,14 +1,16 @@
 -- A host at its place in the commands: whether one is left, and what comes of a command that puts blocks online.
-use Rattle.std.proofs.Common.{◌≡◌, ℕ, zero, suc, ◌+◌, ◌-◌, ◌<◌, ◌≤◌, ◌==◌, Bool, false, if◌then◌else◌, List, [], ◌∷◌, length, drop, refl, sym, ap, ◌∙◌, arith, Option, None, Some}
+use Rattle.std.proofs.Common.{◌≡◌, ℕ, zero, suc, ◌+◌, ◌-◌, ◌<◌, ◌≤◌, ◌==◌, Bool, true, false, ne_eqb, if◌then◌else◌, List, [], ◌∷◌, length, drop, refl, sym, ap, ◌∙◌, arith, Option, None, Some}
 use Rattle.std.proofs.lemmas.Bool.{eq-eqb}
 use Rattle.std.proofs.lemmas.Bool.Decides.{nat_tests}
+use mathlib.Core.Logic.{dite}
+use native.Mathlib.Decide.{dec_lt}
 use Rattle.evac_model.specs.declared.host.HostCommand.{HostCommand}
 use Rattle.evac_model.specs.declared.host.HostResult.{HostResult}
 use Rattle.evac_model.specs.Geometry.{Sizes}
 use Rattle.evac_model.specs.HostCommands.{BlockRange, no_blocks}
-use Rattle.core_actors.specs.declared.action.Action.TheVariants as actions
-use Rattle.core_actors.specs.declared.action.Heard.{Heard}
-use Rattle.core_actors.specs.declared.action.SpaceCall.TheVariants.{Online}
+use Rattle.machine.specs.declared.action.Action.TheVariants as actions
+use Rattle.machine.specs.declared.action.Heard.{Heard}
+use Rattle.machine.specs.declared.action.SpaceCall.TheVariants.{Online}
 use Rattle.core_actors.specs.declared.host.Host.TheInside.{Inside}
 use Rattle.core_actors.specs.HostInside.{host_state, IsHostInside}
 use Rattle.core_actors.specs.Hosts.{HostState, has_none, host_ended, host_action, action_for, host_after, line_after, result_now, with_result, line_with, but_first}
@@ -31,6 +33,17 @@ one_more_dropped : (commands : List HostCommand) (at : ℕ) → drop (at + 1) co
 one_more_dropped [] at = rw (drop_nothing at) (drop_nothing (at + 1))
 one_more_dropped (c ∷ cs) zero = refl
 one_more_dropped (c ∷ cs) (suc at) = let e : suc at + 1 ≡ suc (at + 1) = omega arith in ap (λ (k : ℕ). drop k (c ∷ cs)) e ∙ one_more_dropped cs at
+
+none_at_end : (commands : List HostCommand) (at : ℕ) → length commands ≤ at → has_none (drop at commands) ≡ true
+none_at_end [] at le = ap has_none (drop_nothing at)
+none_at_end (c ∷ cs) zero le = absurd (omega arith)
+none_at_end (c ∷ cs) (suc at) le = none_at_end cs at (omega arith)
+
+-- it has ended just behind the last of its commands
+pub ended_here : (a : Inside) (count : ℕ) → IsHostInside a → count ≡ length a.commands → (a.at == count) ≡ host_ended (host_state a)
+ended_here a count inside is = dite (dec_lt a.at (length a.commands))
+    (λ lt. ne_eqb a.at count (λ e. absurd (omega arith)) ∙ sym (some_before_end a.commands a.at lt))
+    (λ past. eq-eqb a.at count (let place = inside.place in omega arith) ∙ sym (none_at_end a.commands a.at (omega arith)))
 
 -- ---- a command ends
 

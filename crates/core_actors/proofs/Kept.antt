@@ -1,6 +1,7 @@
 -- How an owner is kept, before and after its next action.
-use Rattle.std.proofs.Common.{◌≡◌, ℕ, zero, suc, eq-eqb, ne_eqb, ◌+◌, ◌<◌, ◌≤◌, ◌==◌, true, false, if◌then◌else◌, List, [], ◌∷◌, length, drop, get_or, refl, sym, ap, ◌∙◌, subst, arith, Option, Some, None}
+use Rattle.std.proofs.Common.{◌≡◌, ℕ, zero, suc, eq-eqb, ne_eqb, ◌+◌, ◌<◌, ◌≤◌, ◌==◌, ◌&&◌, Bool, true, false, if◌then◌else◌, List, [], ◌∷◌, length, drop, get_or, refl, sym, ap, ◌∙◌, subst, arith, Option, Some, None}
 use Rattle.std.specs.List.{AllByRecursion}
+use Rattle.std.proofs.Math.Bool.{and-true}
 use mathlib.Core.Logic.{dite}
 use native.Mathlib.Decide.{dec_lt}
 use Rattle.evac_model.specs.declared.names.FrameNo.{FrameNo}
@@ -8,14 +9,14 @@ use Rattle.evac_model.specs.declared.names.PageNo.{PageNo}
 use Rattle.evac_model.specs.declared.call.Call.{Call}
 use Rattle.evac_model.specs.Geometry.{Sizes}
 use Rattle.evac_model.specs.Calls.{IsCallFor}
+use Rattle.machine.specs.declared.action.Heard.{Heard}
 use Rattle.core_actors.specs.CallSteps.{first_cell, load_count, values_of}
-use Rattle.core_actors.specs.declared.action.Heard.{Heard}
 use Rattle.core_actors.specs.declared.place.Place.{Place}
 use Rattle.core_actors.specs.declared.place.Place.TheVariants.{Between, InCall}
 use Rattle.core_actors.specs.declared.place.CallPlace.{CallPlace}
 use Rattle.core_actors.specs.declared.place.CallPlace.TheVariants.{Zero, MarkZeros, Take, Draw, Load, Store, Mark, Map, Unmap, Release}
 use Rattle.core_actors.specs.Places.{first_action, action_at, behind_first, place_behind, calls_behind, frame_owed, ends_call}
-use Rattle.core_actors.specs.Owners.{OwnerState, are_none, is_nothing, next_action, owner_after}
+use Rattle.core_actors.specs.Owners.{OwnerState, owner_ended, are_none, is_nothing, next_action, owner_after}
 use Rattle.core_actors.specs.Actions.{ends_with_next}
 use Rattle.core_actors.specs.Counts.{ComesTo, IsPlaced, IsUnderWay}
 use Rattle.core_actors.proofs.Cases.{same_either}
@@ -108,6 +109,12 @@ pub ends_between : (owner cells : ℕ) (xs : List (PageNo × Call)) (i : ℕ) (p
     → (i == length xs) ≡ ends_with_next (record { owner = owner; cells = cells; left = drop i xs; place = place })
 ends_between owner cells xs i place back le e =
     none_here xs i le ∙ sym (ap (λ (p : Place). ends_with_next (record { owner = owner; cells = cells; left = drop i xs; place = p })) e ∙ ends_if_none owner cells back (drop i xs))
+
+-- where no frame is to be given back, it has ended just behind its last call
+pub ended_here : (owner cells : ℕ) (xs : List (PageNo × Call)) (i : ℕ) (place : Place) → i ≤ length xs → is_nothing (frame_owed place) ≡ true
+    → (i == length xs) ≡ owner_ended (record { owner = owner; cells = cells; left = drop i xs; place = place })
+ended_here owner cells xs i place le free =
+    none_here xs i le ∙ sym (ap (λ (b : Bool). are_none (drop i xs) && b) free ∙ and-true (are_none (drop i xs)))
 
 -- ---- the owner after its next action
 

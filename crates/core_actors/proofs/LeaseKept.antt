@@ -5,7 +5,7 @@ use Rattle.evac_model.specs.declared.names.Kind.{Kind}
 use Rattle.evac_model.specs.declared.call.Call.{Call}
 use Rattle.evac_model.specs.declared.call.Call.TheVariants.{Alloc, Free, Read, Write, Add, Pin, Unpin}
 use Rattle.evac_words.specs.Word.{taken_bit, mapped_bit}
-use Rattle.core_actors.specs.declared.action.Heard.{Heard}
+use Rattle.machine.specs.declared.action.Heard.{Heard}
 use Rattle.core_actors.specs.declared.action.LeaseSeen.{LeaseSeen}
 use Rattle.core_actors.specs.declared.action.LeaseSeen.TheVariants.{NotAsked, Got, Refused}
 use Rattle.core_actors.specs.declared.place.Place.{Place}

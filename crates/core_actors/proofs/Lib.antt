@@ -15,5 +15,7 @@ pub mod Kept
 pub mod LeaseKept
 pub mod CallRuns
 pub mod ScriptRuns
+pub mod OutForCalls
 pub mod HostCounts
 pub mod HostPlaces
+pub mod MayMake

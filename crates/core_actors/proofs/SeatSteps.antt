@@ -24,12 +24,13 @@ use Rattle.core_state.specs.MoveSteps.{held_after_map, held_after_unmap, hand_af
 use Rattle.core_state.specs.HandOvers.{hand_without, hand_with}
 use Rattle.core_state.proofs.EntryWords.{same_flags-take}
 use Rattle.core_state.proofs.Holding.{for_some}
+use Rattle.machine.proofs.OneFrame.{within, hand_without_one, hand_with_one}
 use Rattle.core_actors.specs.CallSteps.{first_cell}
 use Rattle.core_actors.specs.Places.{frame_in}
 use Rattle.core_actors.specs.Fits.{known_from, PageHeld, SeatHas, just_frame, unmarked_by, zeroed, as_found, with_cells, IsHeldAs, IsZeroed, IsSeatWith}
 use Rattle.core_actors.proofs.Known.{known_from-push, known_from-none, nothing_there}
 use Rattle.core_actors.proofs.HeldCells.{maps_here}
-use Rattle.core_actors.proofs.HandSteps.{within, hand_without_one, hand_with_one, has_set, has_set_none, store_elsewhere, hand_as, zero_more}
+use Rattle.core_actors.proofs.HandSteps.{has_set, has_set_none, store_elsewhere, hand_as, zero_more}
 use Rattle.core_actors.proofs.HasAt.{drawn}
 
 -- ---- the frames that are unmarked

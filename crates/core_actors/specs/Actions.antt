@@ -1,26 +1,17 @@
--- What an owner hears, and what it does.
-use Rattle.std.specs.Prelude.{Bool, ℕ, ◌<◌, ◌^◌, ⊤}
+-- An owner once it has heard, its last action, and what its steps store.
+use Rattle.std.specs.Prelude.{Bool, ◌<◌, ◌^◌, ⊤}
 use Rattle.core_state.specs.declared.step.Step.{Step}
 use Rattle.core_state.specs.declared.step.Step.TheVariants.{Take, Draw, Load, Store, Mark, Release}
-use Rattle.core_actors.specs.declared.action.Action.{Action}
-use Rattle.core_actors.specs.declared.action.Action.TheVariants as actions
-use Rattle.core_actors.specs.declared.action.Heard.{Heard}
-use Rattle.core_actors.specs.declared.action.Heard.TheVariants.{Start, Word, Nothing}
+use Rattle.machine.specs.declared.action.Action.{Action}
+use Rattle.machine.specs.declared.action.Action.TheVariants as actions
+use Rattle.machine.specs.declared.action.Heard.{Heard}
+use Rattle.machine.specs.declared.action.Heard.TheVariants.{Start, Nothing}
 use Rattle.core_actors.specs.Owners.{OwnerState, owner_ended, owner_after}
 
 -- the owner once it has heard of the action that it was to make
 abbrev pub owner_heard : OwnerState → Heard → OwnerState
 owner_heard a Start = a
 owner_heard a heard = owner_after a heard
-
--- what a step that found the word gives: that word, if it counts for what the owner does next
-abbrev pub heard_by : Step → ℕ → Heard
-heard_by (Take page) found = Word found
-heard_by Draw found = Word found
-heard_by (Load cell) found = Word found
-heard_by (Store frame cell value) found = Nothing
-heard_by (Mark frame) found = Nothing
-heard_by (Release end) found = Nothing
 
 -- No action is left behind the next one. The last action of a script ends it, whatever it gives: it is a
 -- release or a return.

@@ -5,11 +5,11 @@ use Rattle.evac_model.specs.declared.names.PageNo.{PageNo}
 use Rattle.evac_model.specs.declared.call.Call.{Call}
 use Rattle.evac_words.specs.Word.{taken_bit}
 use Rattle.core_state.specs.declared.step.Step.TheVariants.{Take}
-use Rattle.core_actors.specs.declared.action.Action.{Action}
-use Rattle.core_actors.specs.declared.action.Action.TheVariants as actions
-use Rattle.core_actors.specs.declared.action.Heard.{Heard}
+use Rattle.machine.specs.declared.action.Action.{Action}
+use Rattle.machine.specs.declared.action.Action.TheVariants as actions
+use Rattle.machine.specs.declared.action.Heard.{Heard}
+use Rattle.machine.specs.declared.action.SpaceCall.TheVariants.{Return}
 use Rattle.core_actors.specs.declared.action.LeaseSeen.{LeaseSeen}
-use Rattle.core_actors.specs.declared.action.SpaceCall.TheVariants.{Return}
 use Rattle.core_actors.specs.declared.place.Place.{Place}
 use Rattle.core_actors.specs.declared.place.Place.TheVariants.{InCall}
 use Rattle.core_actors.specs.declared.place.CallPlace.TheVariants.{Release}

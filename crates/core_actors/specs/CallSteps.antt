@@ -14,11 +14,11 @@ use Rattle.evac_model.specs.declared.names.Kind.{Kind}
 use Rattle.core_state.specs.declared.step.MoveStep.TheVariants.{Map, Unmap}
 use Rattle.core_state.specs.declared.step.Step.{Step}
 use Rattle.core_state.specs.declared.step.Step.TheVariants.{Take, Draw, Load, Store, Mark, Release}
-use Rattle.core_actors.specs.declared.action.Action.{Action}
-use Rattle.core_actors.specs.declared.action.Action.TheVariants as actions
+use Rattle.machine.specs.declared.action.Action.{Action}
+use Rattle.machine.specs.declared.action.Action.TheVariants as actions
+use Rattle.machine.specs.declared.action.SpaceCall.TheVariants.{Lease}
 use Rattle.core_actors.specs.declared.action.LeaseSeen.{LeaseSeen}
 use Rattle.core_actors.specs.declared.action.LeaseSeen.TheVariants.{NotAsked, Got, Refused}
-use Rattle.core_actors.specs.declared.action.SpaceCall.TheVariants.{Lease}
 
 -- a call on a page of the machine and on cells that a page has
 pub record IsCallOf (s : Sizes) (c : PageNo × Call) : Type 0 where

@@ -8,8 +8,8 @@ use Rattle.evac_model.specs.declared.call.Call.TheVariants.{Alloc, Free, Read, W
 use Rattle.evac_words.specs.Word.{taken_bit, mapped_bit}
 use Rattle.core_state.specs.declared.step.Step.{Step}
 use Rattle.core_state.specs.declared.step.Step.TheVariants.{Take, Draw, Load, Store, Mark, Release}
-use Rattle.core_actors.specs.declared.action.Action.{Action}
-use Rattle.core_actors.specs.declared.action.Action.TheVariants as actions
+use Rattle.machine.specs.declared.action.Action.{Action}
+use Rattle.machine.specs.declared.action.Action.TheVariants as actions
 use Rattle.core_actors.specs.declared.action.LeaseSeen.{LeaseSeen}
 use Rattle.core_actors.specs.declared.action.LeaseSeen.TheVariants.{NotAsked}
 use Rattle.core_actors.specs.declared.place.Place.{Place}

@@ -10,14 +10,14 @@ use Rattle.evac_model.specs.declared.host.HostResult.TheVariants as results
 use Rattle.evac_model.specs.Geometry.{Sizes}
 use Rattle.evac_model.specs.DeviceAnswer.{request_in}
 use Rattle.evac_model.specs.HostCommands.{BlockRange, no_blocks, plugged_by}
-use Rattle.core_actors.specs.declared.action.Action.{Action}
-use Rattle.core_actors.specs.declared.action.Action.TheVariants as actions
-use Rattle.core_actors.specs.declared.action.DeviceCall.{DeviceCall}
-use Rattle.core_actors.specs.declared.action.DeviceCall.TheVariants as calls
-use Rattle.core_actors.specs.declared.action.DeviceHeard.TheVariants as device
-use Rattle.core_actors.specs.declared.action.Heard.{Heard}
-use Rattle.core_actors.specs.declared.action.Heard.TheVariants.{Start, Word, Nothing, Leased, NoFrame, Device}
-use Rattle.core_actors.specs.declared.action.SpaceCall.TheVariants.{Online}
+use Rattle.machine.specs.declared.action.Action.{Action}
+use Rattle.machine.specs.declared.action.Action.TheVariants as actions
+use Rattle.machine.specs.declared.action.DeviceCall.{DeviceCall}
+use Rattle.machine.specs.declared.action.DeviceCall.TheVariants as calls
+use Rattle.machine.specs.declared.action.DeviceHeard.TheVariants as device
+use Rattle.machine.specs.declared.action.Heard.{Heard}
+use Rattle.machine.specs.declared.action.Heard.TheVariants.{Start, Word, Nothing, Leased, NoFrame, Device}
+use Rattle.machine.specs.declared.action.SpaceCall.TheVariants.{Online}
 
 -- The machine's sizes, the commands that haven't ended, in order, and the number of the first of them. That one
 -- is under way: what the device gave, once it was asked, and the blocks that are still to be put online.

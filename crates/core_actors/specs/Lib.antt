@@ -1,5 +1,6 @@
 pub mod CallSteps
 pub mod Places
+pub mod FramesOut
 pub mod Owners
 pub mod Actions
 pub mod CallRuns

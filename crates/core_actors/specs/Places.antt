@@ -8,13 +8,13 @@ use Rattle.evac_model.specs.declared.call.Call.TheVariants.{Alloc, Free, Read, W
 use Rattle.evac_words.specs.Word.{taken_bit, mapped_bit, frame_of}
 use Rattle.core_state.specs.declared.step.MoveStep.TheVariants as moves
 use Rattle.core_state.specs.declared.step.Step.TheVariants as steps
-use Rattle.core_actors.specs.declared.action.Action.{Action}
-use Rattle.core_actors.specs.declared.action.Action.TheVariants as actions
-use Rattle.core_actors.specs.declared.action.Heard.{Heard}
-use Rattle.core_actors.specs.declared.action.Heard.TheVariants as heards
+use Rattle.machine.specs.declared.action.Action.{Action}
+use Rattle.machine.specs.declared.action.Action.TheVariants as actions
+use Rattle.machine.specs.declared.action.Heard.{Heard}
+use Rattle.machine.specs.declared.action.Heard.TheVariants as heards
+use Rattle.machine.specs.declared.action.SpaceCall.TheVariants.{Lease}
 use Rattle.core_actors.specs.declared.action.LeaseSeen.{LeaseSeen}
 use Rattle.core_actors.specs.declared.action.LeaseSeen.TheVariants.{NotAsked, Got, Refused}
-use Rattle.core_actors.specs.declared.action.SpaceCall.TheVariants.{Lease}
 use Rattle.core_actors.specs.declared.place.Place.{Place}
 use Rattle.core_actors.specs.declared.place.Place.TheVariants.{Between, InCall}
 use Rattle.core_actors.specs.declared.place.CallPlace.{CallPlace}

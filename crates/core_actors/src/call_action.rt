@@ -7,11 +7,12 @@ ghost use Rattle.core_actors.specs.Actions.{IsStorableAction};
 ghost use Rattle.core_actors.specs.Counts.{ComesTo};
 ghost use Rattle.core_actors.specs.Places.{first_action, action_at};
 
-use crate::action::{Action, LeaseSeen, SpaceCall};
+use crate::action::LeaseSeen;
 use crate::place::CallPlace;
 use core_state::{CallDone, MoveStep, Step};
 use evac_model::{Call, Cells, FrameNo, PageNo, Reply};
 use evac_words::{frame_of, is_mapped, pins_of};
+use machine::{Action, SpaceCall};
 
 /// The value that was loaded first, or 0.
 fn first_loaded(loads: &Cells) -> u64

@@ -5,12 +5,13 @@ ghost use Rattle.core_actors.specs.CallSteps.{load_count, values_of};
 ghost use Rattle.core_actors.specs.Counts.{ComesTo};
 ghost use Rattle.core_actors.specs.Places.{word_in, zero_from, behind_lease, behind_take, store_from, behind_loads, load_from, cells_behind, map_behind, behind_draw, behind_first, place_behind};
 
-use crate::action::{Heard, LeaseSeen};
+use crate::action::LeaseSeen;
 use crate::call_action::{frame_back, is_freed};
 use crate::heard::{lease_in, word_in};
 use crate::place::{CallPlace, Place};
 use evac_model::{Call, Cells, FrameNo, Kind};
 use evac_words::{is_mapped, is_taken};
+use machine::Heard;
 
 /// From that cell of a leased frame on. A page has `cells` cells.
 fn zero_from(cells: u32, frame: FrameNo, cell: u32) -> CallPlace

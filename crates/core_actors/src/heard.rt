@@ -4,8 +4,9 @@ ghost use Rattle.std.specs.Prelude.{◌≡◌};
 ghost use Rattle.core_actors.specs.Places.{word_in, lease_in};
 ghost use Rattle.core_actors.specs.Hosts.{result_in};
 
-use crate::action::{DeviceHeard, Heard, LeaseSeen};
+use crate::action::LeaseSeen;
 use evac_model::{HostResult, Response};
+use machine::{DeviceHeard, Heard};
 
 /// The word that was found; 0 where none was.
 pub(crate) fn word_in(heard: &Heard) -> u64

@@ -3,9 +3,10 @@
 ghost use Rattle.std.specs.Prelude.{◌≡◌, ◌+◌, ◌≤◌};
 ghost use Rattle.core_actors.specs.Hosts.{device_call, plugged_in};
 
-use crate::action::{Action, DeviceCall, Heard, Others, SpaceCall};
+use crate::action::Others;
 use crate::heard::result_in;
 use evac_model::{BlockNo, CommandList, Geometry, HostCommand, HostLine, HostResult, Response};
+use machine::{Action, DeviceCall, Heard, SpaceCall};
 use mem_device::plugged_by;
 use std::marker::Model;
 
@@ -35,8 +36,8 @@ fn device_call(command: &HostCommand) -> DeviceCall
 
 /// The host and its commands. For each it asks the device, and where a PLUG is acknowledged, it puts the
 /// blocks online that were plugged, from the lowest up, after Linux's virtio_mem driver. It begins a command
-/// where the one before has ended. Contracts see how it stood before the action that it gave last, since what
-/// that one gave isn't heard yet.
+/// where the one before has ended. Contracts see how it stands by what it has heard: before the action that it
+/// gave last, until it hears what that one gave.
 #[derive(Drop)]
 pub struct Host {
     geometry: Geometry,
@@ -62,7 +63,7 @@ impl Model for Host {
 
 impl Host {
     ghost use Rattle.std.specs.Prelude.{◌≡◌, false, None};
-    ghost use Rattle.core_actors.specs.Hosts.{host_at_start, host_ended, host_action, host_after, host_heard, line_after, line_heard, with_result, line_with, command_ended};
+    ghost use Rattle.core_actors.specs.Hosts.{host_at_start, host_ended, host_action, host_after, host_heard, line_after, line_heard, with_result, line_with};
 
     /// The host of a machine, at the start of its commands.
     pub fn new(g: Geometry, commands: CommandList) -> Host
@@ -80,7 +81,7 @@ impl Host {
     }
 
     /// What the host does next.
-    fn action(&self) -> Action
+    pub fn action(&self) -> Action
         ensures { result ≡ host_action self.now.state }
     {
         if self.at == self.commands.len() {
@@ -121,8 +122,9 @@ impl Host {
         self.count = 0;
     }
 
-    /// Makes the next action, which gave this.
-    fn hear(&mut self, heard: &Heard)
+    /// Hears what the action gave that it was to make next: what the device gave, and nothing after any other action.
+    /// What doesn't fit is read as an ERROR of the device. One that has ended stays as it is.
+    pub fn hear(&mut self, heard: &Heard)
         ensures state { self.new.state ≡ host_after self.old.state heard.now }
         ensures line { self.new.line ≡ line_after self.old.state heard.now }
     {
@@ -140,9 +142,15 @@ impl Host {
         self.take_result(given, first.0, count);
     }
 
-    /// What the host does next, after `last` was heard of the action before: what the device gave, nothing after
-    /// any other action, and `Start` at the first turn. What doesn't fit is read as an ERROR of the device.
-    /// `others` counts for later commands alone: none of these waits for another actor.
+    /// Whether no command is left.
+    pub fn has_ended(&self) -> bool
+        ensures { result ≡ host_ended self.now.state }
+    {
+        self.at == self.commands.len()
+    }
+
+    /// What the host does next, after `last` was heard of the action before, as `hear` hears it, and `Start` at the
+    /// first turn. `others` counts for later commands alone: none of these waits for another actor.
     pub fn next(&mut self, last: Heard, _others: Others) -> Action
         ensures state { self.new.state ≡ host_heard self.old.state last }
         ensures line { self.new.line ≡ line_heard self.old.state last }
@@ -155,7 +163,7 @@ impl Host {
         self.action()
     }
 
-    /// The line of the command that ended with the action of which the last `next` heard. It is given once; None
+    /// The line of the command that ended with the action of which was heard last. It is given once; None
     /// where no command ended there, or its line was given already.
     pub fn line(&mut self) -> Option<HostLine>
         ensures line { result ≡ self.old.line }

@@ -3,10 +3,14 @@
 ghost use Rattle.std.specs.Prelude.{◌≡◌, ℕ, ◌+◌, ◌*◌, ◌<◌, ◌≤◌, ◌↔◌, List, [], ◌∷◌, ◌++◌, map, length, true, false, None, Some, IsSome};
 ghost use Rattle.std.specs.List.{AllByRecursion, enumerate_from};
 ghost use Rattle.evac_model.specs.declared.call.Call.{Call};
+ghost use Rattle.evac_model.specs.declared.host.HostCommand.{HostCommand};
 ghost use Rattle.evac_model.specs.declared.names.FrameNo.{FrameNo};
 ghost use Rattle.evac_model.specs.declared.names.Kind.{Kind};
 ghost use Rattle.evac_model.specs.declared.names.PageNo.{PageNo};
 ghost use Rattle.evac_model.specs.Geometry.{Sizes};
+ghost use Rattle.evac_model.specs.HostCommands.{blocks_of};
+ghost use Rattle.evac_model.specs.Numbers.{is_in};
+ghost use Rattle.evac_model.specs.Scenarios.{IsHostCommand};
 ghost use Rattle.evac_model.specs.Scripts.{numbered_call};
 ghost use Rattle.core_state.specs.declared.hand.HandFrame.{HandFrame};
 ghost use Rattle.core_state.specs.declared.keeper.Keeper.{Keeper};
@@ -15,25 +19,30 @@ ghost use Rattle.core_state.specs.declared.opening.Opening.{Opening};
 ghost use Rattle.core_state.specs.declared.step.MoveStep.{MoveStep};
 ghost use Rattle.core_state.specs.declared.step.Step.{Step};
 ghost use Rattle.core_state.specs.declared.view.View.{View};
-ghost use Rattle.core_state.specs.Views.{Has, IsSeated, hand_frame};
+ghost use Rattle.core_state.specs.Views.{Has, IsSeated, view_of, hand_frame};
 ghost use Rattle.core_state.specs.Pages.{Pages};
 ghost use Rattle.core_state.specs.Sound.{Sound};
 ghost use Rattle.core_state.specs.Opens.{IsNew};
 ghost use Rattle.core_state.specs.Steps.{Allowed, view_after};
 ghost use Rattle.core_state.specs.MoveSteps.{AllowedMove, view_after_move};
 ghost use Rattle.core_state.specs.HandOvers.{IsAtRest, MayHandOver, hand_without, hand_with};
-ghost use Rattle.core_actors.specs.declared.action.Action.{Action};
-ghost use Rattle.core_actors.specs.declared.action.Heard.{Heard};
-ghost use Rattle.core_actors.specs.declared.action.SpaceCall.{SpaceCall};
+ghost use Rattle.machine.specs.declared.action.Action.{Action};
+ghost use Rattle.machine.specs.declared.action.Heard.{Heard};
+ghost use Rattle.machine.specs.declared.action.SpaceCall.{SpaceCall};
+ghost use Rattle.machine.specs.Consistent.{IsConsistent};
+ghost use Rattle.machine.specs.Made.{heard_by};
+ghost use Rattle.machine.specs.MayMake.{MayMake};
+ghost use Rattle.machine.specs.World.{Setting, World, IsOwnerSeat, HasFrame, space_now, is_held};
 ghost use Rattle.core_actors.specs.declared.action.LeaseSeen.{LeaseSeen};
 ghost use Rattle.core_actors.specs.CallRuns.{made_hearing, after_hearing, before_release, calls_heard, script_actions};
 ghost use Rattle.core_actors.specs.CallSteps.{IsCallOf, call_actions};
 ghost use Rattle.core_actors.specs.Owners.{OwnerState, owner_at_start, owner_ended, next_action, owner_after};
-ghost use Rattle.core_actors.specs.Actions.{owner_heard, heard_by, ends_with_next, IsStorable};
+ghost use Rattle.core_actors.specs.Actions.{ends_with_next, IsStorable, IsStorableAction};
 ghost use Rattle.core_actors.specs.Counts.{actions_left, IsUnderWay, FindsTaken};
 ghost use Rattle.core_actors.specs.Fits.{Fits};
-ghost use Rattle.evac_model.specs.declared.host.HostCommand.{HostCommand};
-ghost use Rattle.core_actors.specs.Hosts.{HostState, host_at_start, host_ended, host_after, host_actions_left, IsHostUnderWay};
+ghost use Rattle.core_actors.specs.FramesOut.{IsOutForCall};
+ghost use Rattle.core_actors.specs.Hosts.{HostState, host_at_start, host_ended, host_action, host_after, host_actions_left, IsHostUnderWay};
+ghost use Rattle.core_actors.specs.Places.{frame_owed};
 
 /// From the start of a call an owner makes exactly the actions of the call's list, one after another, whatever it
 /// hears; a take that finds its page taken is made again. Where the release comes next, what its lease gave, the
@@ -52,12 +61,14 @@ pub fn owners_make_the_actions_of_their_scripts()
 
 /// The next action of an owner that hasn't ended is allowed, where its seat's view fits its place in the
 /// script, and each page is what its calls answer. Where it asks the frame space, its seat is at rest; a
-/// frame that it gives back is in its hand.
+/// frame that it gives back is in its hand. In a consistent world, where each frame in its hand is out for its
+/// call, or to be given back, its seat may make that action.
 pub fn owners_make_allowed_actions()
     ensures steps { (s : Sizes) (o : Opening) (words : List ℕ) (views : List View) (seat : ℕ) (v : View) (script : List (PageNo × Call)) (a : OwnerState) (step : Step) → Has views seat v → Pages o words views → Fits s o script v a → owner_ended a ≡ false → next_action a ≡ Action.Step step → IsStorable step → Allowed o v step }
     ensures moves { (s : Sizes) (o : Opening) (words : List ℕ) (views : List View) (seat : ℕ) (v : View) (script : List (PageNo × Call)) (a : OwnerState) (step : MoveStep) → Has views seat v → Pages o words views → Fits s o script v a → owner_ended a ≡ false → next_action a ≡ Action.Move step → AllowedMove OneOwner o v step }
     ensures leases { (s : Sizes) (o : Opening) (v : View) (script : List (PageNo × Call)) (a : OwnerState) (page : PageNo) (kind : Kind) → Fits s o script v a → owner_ended a ≡ false → next_action a ≡ Action.Space (SpaceCall.Lease page kind) → IsAtRest o v × (page.0 < s.pages) }
     ensures returns { (s : Sizes) (o : Opening) (v : View) (script : List (PageNo × Call)) (a : OwnerState) (frame : FrameNo) → Fits s o script v a → owner_ended a ≡ false → next_action a ≡ Action.Space (SpaceCall.Return frame) → IsAtRest o v × IsSome (hand_frame v frame.0) }
+    ensures made { (c : Setting) (seat : ℕ) (w : World) (v : View) (script : List (PageNo × Call)) (a : OwnerState) → IsConsistent c w → IsOwnerSeat c seat → Has w.snapshot.views seat v → Fits c.sizes c.opening script v a → IsStorableAction (next_action a) → ((frame : ℕ) → HasFrame w seat frame → IsOutForCall (space_now c w) a.left (frame_owed a.place) frame) → owner_ended a ≡ false → MayMake c seat w (next_action a) }
 {}
 
 /// The view still fits after the owner's next action, whatever it gives: after a step that found a word, a
@@ -114,6 +125,12 @@ pub fn ends_are_known_before_the_last_action()
 pub fn hosts_stay_under_way()
     ensures start { (s : Sizes) (commands : List HostCommand) → IsHostUnderWay (host_at_start s commands) }
     ensures action { (h : HostState) (heard : Heard) → IsHostUnderWay h → IsHostUnderWay (host_after h heard) }
+{}
+
+/// The driver's seat may make the next action of a host, where it is at rest, the commands are such as a scenario has,
+/// and the blocks that are still to be put online are exactly those that the driver holds.
+pub fn hosts_make_allowed_actions()
+    ensures { (c : Setting) (w : World) (h : HostState) → h.sizes ≡ c.sizes → IsHostUnderWay h → AllByRecursion IsHostCommand h.left → IsAtRest c.opening (view_of w.snapshot.views 0) → ((b : ℕ) → is_in b (blocks_of h.online) ≡ is_held c w b) → MayMake c 0 w (host_action h) }
 {}
 
 /// A host makes at most so many actions as it has commands, times the managed blocks and one more. Each

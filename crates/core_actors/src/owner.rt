@@ -1,16 +1,17 @@
 //! An owner: the actions of its calls, one after another.
 
-use crate::action::{Action, Heard, Others, SpaceCall};
+use crate::action::Others;
 use crate::call_action::{action_at, first_action, frame_back};
 use crate::call_place::{behind_first, place_behind};
 use crate::place::{CallPlace, Place};
 use core_state::Step;
 use evac_model::{CallList, Geometry};
+use machine::{Action, Heard, SpaceCall};
 use std::marker::Model;
 
 /// An owner and its script. It makes each call by a few actions, as `docs/ACTORS.md` says, and
 /// begins a call where the one before has ended and its frame, if one is left, is given back. Contracts
-/// see how it stood before the action that it gave last, since what that one gave isn't heard yet.
+/// see how it stands by what it has heard: before the action that it gave last, until it hears what that one gave.
 #[derive(Drop)]
 pub struct Owner {
     geometry: Geometry,
@@ -36,9 +37,9 @@ impl Owner {
     ghost use Rattle.std.specs.Prelude.{◌≡◌, true, false};
     ghost use Rattle.std.specs.List.{AllByRecursion};
     ghost use Rattle.core_state.specs.declared.step.Step.{Step};
-    ghost use Rattle.core_actors.specs.declared.action.Action.{Action};
+    ghost use Rattle.machine.specs.declared.action.Action.{Action};
     ghost use Rattle.core_actors.specs.CallSteps.{IsCallOf};
-    ghost use Rattle.core_actors.specs.Owners.{owner_at_start, are_none, is_nothing, next_action, owner_after};
+    ghost use Rattle.core_actors.specs.Owners.{owner_at_start, owner_ended, are_none, is_nothing, next_action, owner_after};
     ghost use Rattle.core_actors.specs.Places.{frame_owed, ends_call};
     ghost use Rattle.core_actors.specs.Actions.{owner_heard, ends_with_next, IsStorable, IsStorableAction};
 
@@ -74,7 +75,7 @@ impl Owner {
     }
 
     /// What the owner does next.
-    fn action(&self) -> Action
+    pub fn action(&self) -> Action
         ensures action { result ≡ next_action self.now }
         ensures storable { IsStorableAction result }
     {
@@ -113,8 +114,10 @@ impl Owner {
         }
     }
 
-    /// Makes the next action, which gave this.
-    fn hear(&mut self, heard: &Heard)
+    /// Hears what the action gave that it was to make next: the word that a take, a draw or a load found, the frame
+    /// that was leased or that there was none, and nothing after any other action. What doesn't fit the action is read
+    /// as a word 0, or as a lease that was refused. One that has ended stays as it is.
+    pub fn hear(&mut self, heard: &Heard)
         ensures { self.new ≡ owner_after self.old heard.now }
     {
         if let Place::Between { back: Some(_) } = self.place {
@@ -135,10 +138,8 @@ impl Owner {
         self.place = place;
     }
 
-    /// What the owner does next, after `last` was heard of the action before: the word that a take, a
-    /// draw or a load found, the frame that was leased or that there was none, nothing after any other
-    /// action, and `Start` at the first turn. What doesn't fit the action is read as a word 0, or as a
-    /// lease that was refused. `others` counts for other actors alone: an owner never waits for them.
+    /// What the owner does next, after `last` was heard of the action before, as `hear` hears it, and `Start` at the
+    /// first turn. `others` counts for other actors alone: an owner never waits for them.
     pub fn next(&mut self, last: Heard, _others: Others) -> Action
         ensures state { self.new ≡ owner_heard self.old last }
         ensures action { result ≡ next_action self.new }
@@ -149,6 +150,16 @@ impl Owner {
             _ => self.hear(&last),
         }
         self.action()
+    }
+
+    /// Whether it has ended: no call is left, and no frame to give back.
+    pub fn is_ended(&self) -> bool
+        ensures { result ≡ owner_ended self.now }
+    {
+        if let Place::Between { back: Some(_) } = self.place {
+            return false;
+        }
+        self.at == self.calls.len()
     }
 
     /// Whether the last action of its last call was given already. It is so without what that action

@@ -1,48 +1,71 @@
--- The next action of an owner in a kept machine is allowed on its seat.
-use Rattle.std.proofs.Common.{◌≡◌, ℕ, suc, false, Bool, get_or, refl, ap, List, [], Some, length}
+-- The next action of an owner, and that of the host, may be made in a kept run.
+use Rattle.std.proofs.Common.{◌≡◌, ℕ, suc, ◌<◌, false, [], length, Some, subst, inl, refl, arith}
 use Rattle.std.specs.List.{slice_get}
+use Rattle.std.proofs.lemmas.Option.{slice_get-get_or}
 use Rattle.evac_model.specs.declared.scenario.Scenario.{Scenario}
+use Rattle.evac_model.specs.ScenarioGrammar.{online_of}
 use Rattle.evac_model.specs.Scenarios.{IsRunnable}
 use Rattle.evac_model.specs.Scripts.{script_of}
-use Rattle.evac_words.specs.Word.{bit_of}
-use Rattle.core_state.specs.declared.step.Step.{Step}
-use Rattle.core_state.specs.declared.step.Step.TheVariants.{Take, Draw, Load, Store, Mark, Release}
 use Rattle.core_state.specs.declared.view.View.{View}
-use Rattle.core_state.specs.CoreState.{notices_of}
-use Rattle.core_actors.specs.declared.action.Action.{Action}
-use Rattle.core_actors.specs.declared.action.Action.TheVariants as actions
-use Rattle.core_actors.specs.declared.action.SpaceCall.TheVariants.{Lease, Return, Online}
-use Rattle.core_actors.specs.Owners.{OwnerState, next_action}
-use Rattle.core_actors.proofs.Allowed.{next_step_allowed, next_move_allowed, lease_allowed}
-use Rattle.replay.specs.Keeping.{IsKept}
-use Rattle.replay.specs.Machine.{Machine, free_seat}
-use Rattle.replay.specs.Quiet.{IsQuiet}
-use Rattle.replay.specs.Runs.{opening, setting}
-use Rattle.replay.specs.Seats.{scene, MayMake, MayAct}
-use Rattle.replay.proofs.OwnerSeats.{free_of, owner_view, owner_has, owner_fits, lease_handed, return_handed, return_out}
+use Rattle.core_state.specs.HandOvers.{IsAtRest}
+use Rattle.core_state.specs.Views.{Has, view_of}
+use Rattle.core_state.proofs.Lists.{within}
+use Rattle.core_state.proofs.Rooms.{seat_has}
+use Rattle.core_actors.specs.Fits.{Fits}
+use Rattle.core_actors.specs.Hosts.{host_action}
+use Rattle.core_actors.specs.Owners.{OwnerState, owner_at_start, owner_ended, next_action}
+use Rattle.core_actors.proofs.MayMake.{owner_may_make, host_may_make}
+use Rattle.machine.specs.Consistent.{IsSetting}
+use Rattle.machine.specs.MayMake.{MayMake}
+use Rattle.machine.specs.World.{IsOwnerSeat}
+use Rattle.machine.proofs.Opened.{opened_set}
+use Rattle.replay.specs.Keeping.{HaveNumbers, IsKept}
+use Rattle.replay.specs.Running.{Running, owner_of}
+use Rattle.replay.specs.Runs.{opening, setting, budgets_of}
+use Rattle.replay.proofs.Starts.{may_start, setting_is}
+use Rattle.replay.proofs.Storable.{next_storable}
 
--- a take that is no move notices nothing by right
-no_notices : (v : View) (step : Step) → v.mover ≡ [] → notices_of v step ≡ 0
-no_notices v (Take page) e = ap (λ (m : List Bool). bit_of (get_or m page.0 false)) e
-no_notices v Draw e = refl
-no_notices v (Load cell) e = refl
-no_notices v (Store frame cell value) e = refl
-no_notices v (Mark frame) e = refl
-no_notices v (Release end) e = refl
+-- the parts of a scenario's setting go together
+pub setting_fits : (s : Scenario) → IsRunnable s → IsSetting (setting s)
+setting_fits s r = subst IsSetting (setting_is s) (opened_set s.geometry (online_of s) s.start (budgets_of s.owners) (may_start s r))
 
-pub may_act : (s : Scenario) (m : Machine) (i : ℕ) (a : OwnerState) → IsRunnable s → IsKept s m → IsQuiet m.snapshot.views → slice_get m.owners i ≡ Some a
-    → MayAct (setting s) (suc i) (free_seat (length m.owners)) (scene m.snapshot a m.journal)
-may_act s m i a r kept quiet at going = by_action (next_action a) refl where
-  by_action : (x : Action) → next_action a ≡ x → MayMake (setting s) (suc i) (free_of m) m.snapshot m.journal x
-  by_action (actions.Step step) is = (
-    λ storable. next_step_allowed s.geometry (opening s) m.snapshot.words m.snapshot.views (suc i) (owner_view m i) (script_of s.owners (suc i)) a step (owner_has s m kept i a at) kept.seats.sound.pages (owner_fits s m kept i a at).1 going is storable,
-    no_notices (owner_view m i) step (quiet.none i (owner_view m i) (owner_has s m kept i a at)),
-  )
-  by_action (actions.Move step) is = next_move_allowed s.geometry (opening s) (owner_view m i) (script_of s.owners (suc i)) a step (owner_fits s m kept i a at).1 going is
-  by_action (actions.Space (Lease page kind)) is =
-      let may = lease_allowed s.geometry (opening s) (owner_view m i) (script_of s.owners (suc i)) a (owner_fits s m kept i a at).1 page kind is in
-      (may.1, λ l some. lease_handed s m kept i a at r kind l some may.0)
-  by_action (actions.Space (Return frame)) is = (return_out s m kept i a at going frame is, return_handed s m kept i a at going frame is)
-  by_action (actions.Space (Online block)) is = tt
-  by_action (actions.Device call) is = tt
-  by_action actions.Ended is = tt
+-- ---- the seats
+
+abbrev pub owner_view : Running → ℕ → View
+owner_view m i = view_of m.world.snapshot.views (suc i)
+
+module _ (s : Scenario) (m : Running) (kept : IsKept s m) where
+  -- an owner's seat has its number
+  pub owner_seat : (i : ℕ) → i < length m.owners → IsOwnerSeat (setting s) (suc i)
+  owner_seat i below = (omega arith, let same = kept.seats.owners in omega arith)
+
+  module _ (i : ℕ) (a : OwnerState) (at : slice_get m.owners i ≡ Some a) where
+    pub owner_below : i < length s.owners
+    owner_below = let lt = within m.owners i a at in let same = kept.seats.owners in omega arith
+
+    pub owner_has : Has m.world.snapshot.views (suc i) (owner_view m i)
+    owner_has = seat_has m.world.snapshot.views (suc i) (let lt = owner_below in let seats = kept.world.seats in omega arith)
+
+    pub owner_fits : (a.owner ≡ suc i) × Fits s.geometry (opening s) (script_of s.owners (suc i)) (owner_view m i) a × HaveNumbers a.left
+    owner_fits = kept.seats.fits i a (owner_view m i) at owner_has
+
+  driver_rests : IsAtRest (opening s) (view_of m.world.snapshot.views 0)
+  driver_rests =
+      let driver = view_of m.world.snapshot.views 0 in
+      let has = seat_has m.world.snapshot.views 0 (let seats = kept.world.seats in omega arith) in
+      (kept.seats.others 0 driver has (inl refl)).rests
+
+-- ---- the next actions
+
+pub may_act : (s : Scenario) (m : Running) (i : ℕ) → IsRunnable s → IsKept s m → i < length m.owners → owner_ended (owner_of m.owners (suc i)) ≡ false
+    → MayMake (setting s) (suc i) m.world (next_action (owner_of m.owners (suc i)))
+may_act s m i r kept below going =
+    let a : OwnerState = owner_of m.owners (suc i) in
+    let at : slice_get m.owners i ≡ Some a = slice_get-get_or m.owners i (owner_at_start 0 0 []) below in
+    let fits = owner_fits s m kept i a at in
+    owner_may_make (setting s) (suc i) m.world (owner_view m i) (script_of s.owners (suc i)) a kept.world (owner_seat s m kept i below) (owner_has s m kept i a at) fits.1
+    (next_storable a fits.2) (λ frame has. kept.frames.owners i a frame at has) going
+
+pub host_may_act : (s : Scenario) (m : Running) → IsRunnable s → IsKept s m → MayMake (setting s) 0 m.world (host_action m.host)
+host_may_act s m r kept =
+    host_may_make (setting s) m.world m.host kept.host.sizes kept.host.under_way kept.host.commands (driver_rests s m kept) kept.host.held

@@ -2,7 +2,6 @@
 -- a take that finds its page taken.
 use Rattle.std.proofs.Common.{◌≡◌, ◌⊎◌, ◌↔◌, ℕ, suc, ◌+◌, ◌<◌, ◌≤◌, true, false, List, [], ◌∷◌, length, refl, ap, ◌∙◌, arith, suc-mul, inl, inr, ⊎_elim, Option, None, Some, subst, sym}
 use Rattle.std.specs.List.{sum_by, slice_get}
-use Rattle.std.proofs.lemmas.Option.{slice_get-get_or}
 use native.Mathlib.Decide.{ℕ_discrete}
 use mathlib.Core.Logic.{dite}
 use Rattle.evac_model.specs.declared.scenario.Actor.{Actor}
@@ -12,32 +11,32 @@ use Rattle.evac_model.specs.declared.host.HostCommand.{HostCommand}
 use Rattle.evac_model.specs.declared.host.HostResult.{HostResult}
 use Rattle.evac_model.specs.Geometry.{Sizes}
 use Rattle.evac_model.specs.HostCommands.{BlockRange}
-use Rattle.evac_model.specs.Scripts.{script_of}
 use Rattle.evac_words.specs.Word.{taken_bit}
 use Rattle.core_state.specs.declared.step.Step.{Step}
 use Rattle.core_state.specs.declared.step.Step.TheVariants.{Take, Draw, Load, Store, Mark, Release}
-use Rattle.core_state.specs.Views.{Has, spent, view_of}
-use Rattle.core_state.proofs.Lists.{within, sum_by_replaced}
-use Rattle.core_actors.specs.declared.action.Action.{Action}
-use Rattle.core_actors.specs.declared.action.Action.TheVariants as actions
-use Rattle.core_actors.specs.declared.action.Heard.{Heard}
-use Rattle.core_actors.specs.declared.action.Heard.TheVariants.{Word}
+use Rattle.core_state.proofs.Lists.{sum_by_replaced}
+use Rattle.machine.specs.declared.action.Action.{Action}
+use Rattle.machine.specs.declared.action.Action.TheVariants as actions
+use Rattle.machine.specs.declared.action.Heard.{Heard}
+use Rattle.machine.specs.declared.action.Heard.TheVariants.{Word}
+use Rattle.machine.specs.Made.{made}
+use Rattle.machine.specs.World.{Setting, World}
 use Rattle.core_actors.specs.Hosts.{HostState, host_ended, host_actions_left, IsHostUnderWay}
 use Rattle.core_actors.specs.Places.{word_in}
 use Rattle.core_actors.specs.Owners.{OwnerState, owner_ended, next_action, owner_after}
 use Rattle.core_actors.specs.Counts.{actions_left, FindsTakenBy, FindsTaken}
-use Rattle.core_actors.specs.Fits.{Fits}
 use Rattle.core_actors.proofs.HostCounts.{host_fewer}
 use Rattle.core_actors.proofs.Left.{actions_fewer, again}
-use Rattle.replay.specs.Machine.{Setting, Machine, after_turn, after_turns}
-use Rattle.replay.specs.Runs.{opening, setting}
+use Rattle.replay.specs.Running.{Running, after_turn, after_turns}
+use Rattle.replay.specs.Runs.{setting}
 use Rattle.replay.specs.Keeping.{IsKept}
-use Rattle.replay.proofs.Turns.{found_by, heard_of, found_at, heard_at, TurnOf, rests, acts, host_acts, turn_of, owners_after, host_stays, owners_stay, host_hears_of_turn}
+use Rattle.replay.proofs.Acting.{owner_fits}
+use Rattle.replay.proofs.Turns.{found_by, found_at, heard_at, host_hears, TurnOf, rests, acts, host_acts, turn_of, owners_after, host_stays, owners_stay, host_after_turn}
 
 abbrev pub owner_actions_left : List OwnerState → ℕ
 owner_actions_left owners = sum_by actions_left owners
 
-abbrev pub all_actions_left : Machine → ℕ
+abbrev pub all_actions_left : Running → ℕ
 all_actions_left m = owner_actions_left m.owners + host_actions_left m.host
 
 -- ---- the host
@@ -76,9 +75,9 @@ finds_taken_or_not (actions.Space call) found = inr (λ h. h)
 finds_taken_or_not (actions.Device call) found = inr (λ h. h)
 finds_taken_or_not actions.Ended found = inr (λ h. h)
 
-module _ (c : Setting) (m : Machine) (seat : ℕ) where
+module _ (c : Setting) (seat : ℕ) (w : World) where
   -- a take is heard of by the word that it finds
-  finds_what_it_hears : (x : Action) (word : ℕ) → heard_of c m seat x ≡ Word word → FindsTaken x word → FindsTaken x (found_by c m seat x)
+  finds_what_it_hears : (x : Action) (word : ℕ) → (made c seat w x).heard ≡ Word word → FindsTaken x word → FindsTaken x (found_by c seat w x)
   finds_what_it_hears (actions.Step (Take page)) word e taken = ap (λ (h : Heard). taken_bit (word_in h)) e ∙ taken
   finds_what_it_hears (actions.Step Draw) word e taken = taken
   finds_what_it_hears (actions.Step (Load cell)) word e taken = taken
@@ -91,8 +90,8 @@ module _ (c : Setting) (m : Machine) (seat : ℕ) where
   finds_what_it_hears actions.Ended word e taken = taken
 
   -- a take that finds its page taken is made again
-  take_again : (a : OwnerState) (x : Action) → next_action a ≡ x → FindsTaken x (found_by c m seat x) → owner_after a (heard_of c m seat x) ≡ a
-  take_again a (actions.Step (Take page)) is taken = again a (found_by c m seat (actions.Step (Take page))) (subst (λ (y : Action). FindsTaken y (found_by c m seat (actions.Step (Take page)))) (sym is) taken)
+  take_again : (a : OwnerState) (x : Action) → next_action a ≡ x → FindsTaken x (found_by c seat w x) → owner_after a (made c seat w x).heard ≡ a
+  take_again a (actions.Step (Take page)) is taken = again a (found_by c seat w (actions.Step (Take page))) (subst (λ (y : Action). FindsTaken y (found_by c seat w (actions.Step (Take page)))) (sym is) taken)
   take_again a (actions.Step Draw) is taken = absurd taken
   take_again a (actions.Step (Load cell)) is taken = absurd taken
   take_again a (actions.Step (Store frame cell value)) is taken = absurd taken
@@ -105,14 +104,7 @@ module _ (c : Setting) (m : Machine) (seat : ℕ) where
 
 -- ---- an action, and a turn
 
-module _ (s : Scenario) (m : Machine) (kept : IsKept s m) where
-  -- an owner's view is there
-  pub view_at : (i : ℕ) (a : OwnerState) → slice_get m.owners i ≡ Some a → Has m.snapshot.views (suc i) (view_of m.snapshot.views (suc i))
-  view_at i a at = slice_get-get_or m.snapshot.views (suc i) spent (omega (arith, within m.owners i a at, kept.seats.owners, kept.seats.seats))
-
-  pub fits_at : (i : ℕ) (a : OwnerState) → slice_get m.owners i ≡ Some a → Fits s.geometry (opening s) (script_of s.owners (suc i)) (view_of m.snapshot.views (suc i)) a
-  fits_at i a at = (kept.seats.fits i a (view_of m.snapshot.views (suc i)) at (view_at i a at)).1
-
+module _ (s : Scenario) (m : Running) (kept : IsKept s m) where
   module _ (i : ℕ) (a : OwnerState) (at : slice_get m.owners i ≡ Some a) (going : owner_ended a ≡ false) where
     left_after : all_actions_left (after_turn (setting s) m (Owner (suc i))) + actions_left a ≡ all_actions_left m + actions_left (owner_after a (heard_at (setting s) m i a))
     left_after =
@@ -124,14 +116,14 @@ module _ (s : Scenario) (m : Machine) (kept : IsKept s m) where
     -- an action, which is no take that finds its page taken, lowers them
     pub action_lowers : ¬ FindsTaken (next_action a) (found_at (setting s) m i a) → all_actions_left (after_turn (setting s) m (Owner (suc i))) < all_actions_left m
     action_lowers free =
-        let fits = fits_at i a at in
+        let fits = (owner_fits s m kept i a at).1 in
         let heard : Heard = heard_at (setting s) m i a in
-        let fewer = actions_fewer a heard fits.under_way going (λ word e taken. free (finds_what_it_hears (setting s) m (suc i) (next_action a) word e taken)) in
+        let fewer = actions_fewer a heard fits.under_way going (λ word e taken. free (finds_what_it_hears (setting s) (suc i) m.world (next_action a) word e taken)) in
         omega (arith, left_after, fewer)
 
     action_keeps : FindsTaken (next_action a) (found_at (setting s) m i a) → all_actions_left (after_turn (setting s) m (Owner (suc i))) ≤ all_actions_left m
     action_keeps taken =
-        let same = ap actions_left (take_again (setting s) m (suc i) a (next_action a) refl taken) in
+        let same = ap actions_left (take_again (setting s) (suc i) m.world a (next_action a) refl taken) in
         omega (arith, left_after, same)
 
     action_never_raises : all_actions_left (after_turn (setting s) m (Owner (suc i))) ≤ all_actions_left m
@@ -141,9 +133,8 @@ module _ (s : Scenario) (m : Machine) (kept : IsKept s m) where
   pub host_lowers : host_ended m.host ≡ false → all_actions_left (after_turn (setting s) m Host) < all_actions_left m
   host_lowers going =
       let owners = ap owner_actions_left (owners_stay (setting s) m) in
-      let heard = host_hears_of_turn (setting s) m going in
-      let host = ap host_actions_left heard.1 in
-      omega (arith, owners, host, host_fewer m.host heard.0 kept.host.under_way going)
+      let host = ap host_actions_left (host_after_turn (setting s) m going) in
+      omega (arith, owners, host, host_fewer m.host (host_hears (setting s) m) kept.host.under_way going)
 
   pub turn_never_raises : (actor : Actor) → all_actions_left (after_turn (setting s) m actor) ≤ all_actions_left m
   turn_never_raises actor = by_kind (turn_of (setting s) m actor) where
@@ -158,16 +149,16 @@ module _ (s : Scenario) (m : Machine) (kept : IsKept s m) where
 
 -- ---- turns
 
--- each turn keeps the machine, as its law says
+-- each turn keeps the run, as its law says
 abbrev pub TurnsKeep : Scenario → Type 0
-TurnsKeep s = (m : Machine) (actor : Actor) → IsKept s m → IsKept s (after_turn (setting s) m actor)
+TurnsKeep s = (m : Running) (actor : Actor) → IsKept s m → IsKept s (after_turn (setting s) m actor)
 
 module _ (s : Scenario) (keep : TurnsKeep s) where
-  pub turns_keep : (m : Machine) (xs : List Actor) → IsKept s m → IsKept s (after_turns (setting s) m xs)
+  pub turns_keep : (m : Running) (xs : List Actor) → IsKept s m → IsKept s (after_turns (setting s) m xs)
   turns_keep m [] kept = kept
   turns_keep m (x ∷ xs) kept = turns_keep (after_turn (setting s) m x) xs (keep m x kept)
 
-  pub turns_never_raise : (m : Machine) (xs : List Actor) → IsKept s m → all_actions_left (after_turns (setting s) m xs) ≤ all_actions_left m
+  pub turns_never_raise : (m : Running) (xs : List Actor) → IsKept s m → all_actions_left (after_turns (setting s) m xs) ≤ all_actions_left m
   turns_never_raise m [] kept = omega arith
   turns_never_raise m (x ∷ xs) kept =
       omega (arith, turns_never_raise (after_turn (setting s) m x) xs (keep m x kept), turn_never_raises s m kept x)

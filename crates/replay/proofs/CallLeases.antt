@@ -13,11 +13,12 @@ use Rattle.evac_model.specs.declared.space.SpaceAction.TheVariants as space
 use Rattle.evac_model.specs.Pairing.{actions_of, AreMadeBy}
 use Rattle.evac_model.specs.ScenarioGrammar.{online_of}
 use Rattle.evac_model.specs.SpaceJournal.{IsLeasable}
-use Rattle.core_actors.specs.declared.action.Action.TheVariants as actions
-use Rattle.core_actors.specs.declared.action.Heard.TheVariants as heard
+use Rattle.machine.specs.declared.action.Action.TheVariants as actions
+use Rattle.machine.specs.declared.action.Heard.TheVariants as heard
+use Rattle.machine.specs.declared.action.SpaceCall.TheVariants.{Lease, Return}
+use Rattle.machine.specs.World.{space_at}
 use Rattle.core_actors.specs.declared.action.LeaseSeen.{LeaseSeen}
-use Rattle.core_actors.specs.declared.action.LeaseSeen.TheVariants.{NotAsked, Refused}
-use Rattle.core_actors.specs.declared.action.SpaceCall.TheVariants.{Lease, Return}
+use Rattle.core_actors.specs.declared.action.LeaseSeen.TheVariants.{Refused}
 use Rattle.core_actors.specs.declared.place.Place.{Place}
 use Rattle.core_actors.specs.declared.place.Place.TheVariants.{Between, InCall}
 use Rattle.core_actors.specs.declared.place.CallPlace.TheVariants.{Take}
@@ -25,9 +26,9 @@ use Rattle.core_actors.specs.Places.{zero_from}
 use Rattle.core_actors.specs.Owners.{OwnerState, next_action, owner_after}
 use Rattle.core_actors.proofs.Asks.{leases_at, returns_at}
 use Rattle.core_actors.proofs.LeaseKept.{zero_leases}
-use Rattle.replay.specs.Machine.{space_at}
 use Rattle.replay.specs.Runs.{setting}
 use Rattle.replay.specs.CallsMade.{made_under_way, IsRefusedNow, AreOwnersCallsMade}
+use Rattle.replay.proofs.CallEnds.{not_refused}
 use Rattle.replay.proofs.CallsKept.{calls_same, calls_own}
 
 -- ---- the lease
@@ -64,14 +65,10 @@ module _ (sc : Scenario) (journal : List SpaceAction) (who : ℕ) (es : List Ent
 
   -- ---- the return
 
-  not_refused : (left : List (PageNo × Call)) (after : List SpaceAction) → IsRefusedNow sc after who es left NotAsked
-  not_refused ((page, Alloc kind) ∷ cs) after = tt
-  not_refused left after = tt
-
   back_given : (left : List (PageNo × Call)) (frame : FrameNo) → AreOwnersCallsMade sc journal who (state (Between (Some frame)) left) es → AreOwnersCallsMade sc (journal ++ space.Return who frame ∷ []) who (state (Between None) left) es
   back_given left frame h =
       let x : SpaceAction = space.Return who frame in
-      calls_own sc journal x who refl (state (Between (Some frame)) left) (state (Between None) left) (λ ended actions e. append-nil (actions ++ x ∷ []) ∙ e) es h (not_refused left (journal ++ x ∷ []))
+      calls_own sc journal x who refl (state (Between (Some frame)) left) (state (Between None) left) (λ ended actions e. append-nil (actions ++ x ∷ []) ∙ e) es h (not_refused sc (journal ++ x ∷ []) who es left)
 
 -- ---- any owner that asks the frame space
 

@@ -16,9 +16,10 @@ use Rattle.core_state.specs.declared.step.Step.TheVariants as steps
 use Rattle.core_state.specs.declared.view.View.{View}
 use Rattle.core_state.specs.MoveSteps.{view_after_move}
 use Rattle.core_state.specs.Steps.{view_after}
-use Rattle.core_actors.specs.declared.action.Action.TheVariants as actions
-use Rattle.core_actors.specs.declared.action.Heard.{Heard}
-use Rattle.core_actors.specs.declared.action.Heard.TheVariants.{Word, Nothing}
+use Rattle.machine.specs.declared.action.Action.TheVariants as actions
+use Rattle.machine.specs.declared.action.Heard.{Heard}
+use Rattle.machine.specs.declared.action.Heard.TheVariants.{Word, Nothing}
+use Rattle.machine.specs.Made.{heard_by}
 use Rattle.core_actors.specs.declared.action.LeaseSeen.TheVariants.{NotAsked}
 use Rattle.core_actors.specs.declared.place.Place.{Place}
 use Rattle.core_actors.specs.declared.place.Place.TheVariants.{Between, InCall}
@@ -27,7 +28,6 @@ use Rattle.core_actors.specs.declared.place.CallPlace.TheVariants as places
 use Rattle.core_actors.specs.CallSteps.{first_cell, values_of, reply_of}
 use Rattle.core_actors.specs.Places.{first_action, action_at, frame_in, ends_call}
 use Rattle.core_actors.specs.Owners.{OwnerState, action_in, next_action, owner_after}
-use Rattle.core_actors.specs.Actions.{heard_by}
 use Rattle.core_actors.specs.Counts.{ComesTo, IsPlaced, IsUnderWay}
 use Rattle.core_actors.specs.Fits.{Fits}
 use Rattle.core_actors.proofs.Asks.{first_moves}
@@ -38,7 +38,7 @@ use Rattle.replay.specs.CallsMade.{AreOwnersCallsMade}
 use Rattle.replay.specs.Keeping.{IsInOrder}
 use Rattle.replay.proofs.CallsKept.{IsAlike, calls_alike}
 use Rattle.replay.proofs.CallEnds.{calls_released}
-use Rattle.replay.proofs.FrameMoves.{move_goes_on}
+use Rattle.replay.proofs.OutKept.{move_goes_on}
 
 module _ (owner cells : ℕ) where
   abbrev state : Place → List (PageNo × Call) → OwnerState

@@ -1,4 +1,4 @@
--- The entries that a machine leaves whose owners have all ended, by who made their calls.
+-- The entries that a run leaves whose owners have all ended, by who made their calls.
 use Rattle.std.proofs.Common.{◌≡◌, ◌≢◌, ℕ, zero, suc, ◌+◌, ◌-◌, ◌<◌, ◌≤◌, ⊎_elim, List, [], length, map, sym, refl, ap, ◌∙◌, subst, arith, Some}
 use Rattle.std.specs.List.{slice_get, enumerate_from}
 use Rattle.std.proofs.lemmas.List.{get_or_past}
@@ -16,42 +16,42 @@ use Rattle.core_state.specs.Pages.{entry_with}
 use Rattle.core_state.specs.Histories.{IsHistoryOf}
 use Rattle.core_state.proofs.Entries.{entry_with-found}
 use Rattle.core_state.proofs.Found.{entry_with-has, entry_at-found, has_entry-uses}
-use Rattle.replay.specs.Machine.{Machine}
+use Rattle.replay.specs.Running.{Running}
 use Rattle.replay.specs.Runs.{opening, AllEnded}
 use Rattle.replay.specs.Keeping.{IsKept}
 use Rattle.replay.proofs.EndedOwners.{IsEndedSeat, owners_seat, each_seat}
 use Rattle.replay.proofs.Members.{there, all_at, all_from, of_caller}
 
 -- an entry of the seat of an owner
-pub record IsOfOwner (s : Scenario) (m : Machine) (e : Entry) : Type 0 where
+pub record IsOfOwner (s : Scenario) (m : Running) (e : Entry) : Type 0 where
   pub place : ℕ
   pub view : View
   pub number : ℕ
-  pub has : Has m.snapshot.views (suc place) view
+  pub has : Has m.world.snapshot.views (suc place) view
   pub here : slice_get view.entries number ≡ Some e
   pub seat : IsEndedSeat s m place view
   pub caller : e.caller ≡ suc place
 
-of_seat : (s : Scenario) (m : Machine) (place i : ℕ) (v : View) (p : ℕ) (e : Entry) → i ≡ suc place → Has m.snapshot.views i v → slice_get v.entries p ≡ Some e → IsEndedSeat s m place v → IsOfOwner s m e
+of_seat : (s : Scenario) (m : Running) (place i : ℕ) (v : View) (p : ℕ) (e : Entry) → i ≡ suc place → Has m.world.snapshot.views i v → slice_get v.entries p ≡ Some e → IsEndedSeat s m place v → IsOfOwner s m e
 of_seat s m place i v p e is has here seat = record {
   place = place;
   view = v;
   number = p;
-  has = subst (λ (n : ℕ). Has m.snapshot.views n v) is has;
+  has = subst (λ (n : ℕ). Has m.world.snapshot.views n v) is has;
   here = here;
   seat = seat;
   caller = all_at (λ (z : Entry). z.caller ≡ suc place) v.entries p e seat.callers here;
 }
 
-module _ (s : Scenario) (m : Machine) (k : IsKept s m) (ended : AllEnded m.owners) (h : List Entry) (history : IsHistoryOf (opening s) m.snapshot.words m.snapshot.views h) where
+module _ (s : Scenario) (m : Running) (k : IsKept s m) (ended : AllEnded m.owners) (h : List Entry) (history : IsHistoryOf (opening s) m.world.snapshot.words m.world.snapshot.views h) where
   abbrev o : Opening
   o = opening s
 
   abbrev words : List ℕ
-  words = m.snapshot.words
+  words = m.world.snapshot.words
 
   abbrev views : List View
-  views = m.snapshot.views
+  views = m.world.snapshot.views
 
   count : length h ≡ next_ticket_of words
   count = omega (arith, history.count)
@@ -63,8 +63,8 @@ module _ (s : Scenario) (m : Machine) (k : IsKept s m) (ended : AllEnded m.owner
   stands : (i : ℕ) (v : View) (p : ℕ) (e : Entry) → Has views i v → slice_get v.entries p ≡ Some e → slice_get h e.ticket ≡ Some e
   stands i v p e at is =
       let used = has_entry-uses views e (record { seat = i; view = v; place = p; has = at; at = is }) in
-      let low : e.ticket < next_ticket_of words = dite (dec_le (next_ticket_of words) e.ticket) (λ le. let none = k.seats.sound.tickets.none_from e.ticket le in absurd (omega arith)) (λ lt. omega arith) in
-      let once = k.seats.sound.tickets.each_once e.ticket (omega arith) low in
+      let low : e.ticket < next_ticket_of words = dite (dec_le (next_ticket_of words) e.ticket) (λ le. let none = k.world.sound.tickets.none_from e.ticket le in absurd (omega arith)) (λ lt. omega arith) in
+      let once = k.world.sound.tickets.each_once e.ticket (omega arith) low in
       let x = there h e.ticket (let c = count in omega arith) in
       let same : Some x.0 ≡ Some e = sym (found_at e.ticket x.0 x.1) ∙ entry_at-found e.ticket views i v p e at is refl (omega arith) in
       x.1 ∙ same
@@ -101,6 +101,6 @@ module _ (s : Scenario) (m : Machine) (k : IsKept s m) (ended : AllEnded m.owner
   pub of_scripts : IsOfScripts s.owners h
   of_scripts zero = ap (map numbered_call) (no_entries zero (λ place lt q. omega arith))
   of_scripts (suc i) = dite (dec_le (suc i) (length s.owners))
-      (λ le. let v = there views (suc i) (let n = k.seats.seats in omega arith) in
+      (λ le. let v = there views (suc i) (let n = k.world.seats in omega arith) in
       ap (map numbered_call) (owners_entries i v.0 (omega arith) v.1) ∙ (owners_seat s m k ended i v.0 (omega arith) v.1).entries)
       (λ gt. ap (map numbered_call) (no_entries (suc i) (λ place lt q. omega arith)) ∙ sym (ap (enumerate_from 0) (get_or_past s.owners i [] (omega arith))))

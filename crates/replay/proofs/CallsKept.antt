@@ -16,11 +16,11 @@ use Rattle.evac_model.specs.declared.space.SpaceAction.{SpaceAction}
 use Rattle.evac_model.specs.Pairing.{caller_of, actions_of, IsMadeBy, AreMadeBy}
 use Rattle.evac_model.specs.ScenarioGrammar.{online_of}
 use Rattle.evac_model.specs.SpaceJournal.{IsLeasable}
+use Rattle.machine.specs.World.{space_at}
 use Rattle.core_actors.specs.declared.action.LeaseSeen.{LeaseSeen}
 use Rattle.core_actors.specs.declared.action.LeaseSeen.TheVariants.{Refused}
 use Rattle.core_actors.specs.Owners.{OwnerState}
 use Rattle.core_actors.specs.Places.{lease_seen, frame_owed}
-use Rattle.replay.specs.Machine.{space_at}
 use Rattle.replay.specs.Runs.{setting}
 use Rattle.replay.specs.CallsMade.{made_under_way, owed, AreMadeSoFar, HadNoFrame, WasRefusedAt, IsRefusedSince, IsRefusedNow, AreOwnersCallsMade}
 use Rattle.replay.proofs.MadeLists.{made_push, own_push, other_push, first_push, behind_push_own, behind_push_other, ticket_below, earlier_push, later_push, all_earlier, none_later}

@@ -10,10 +10,10 @@ use Rattle.evac_model.specs.Geometry.{Sizes, IsWithinLimits, frame_count}
 use Rattle.evac_model.specs.ScenarioGrammar.{call_count}
 use Rattle.evac_model.specs.Turns.{IsDraw}
 use Rattle.evac_model.proofs.Bounds.{power_to_512_most}
-use Rattle.replay.specs.Machine.{Run, run_after, after_turns}
+use Rattle.replay.specs.Running.{Run, run_after, after_turns}
 use Rattle.replay.specs.Keeping.{IsKept}
 use Rattle.replay.specs.ReplayInside.{ReplayState, replay_of}
-use Rattle.replay.specs.Runs.{setting, machine_at_start, HaveEnded, IsScheduledRun}
+use Rattle.replay.specs.Runs.{setting, running_at_start, HaveEnded, IsScheduledRun}
 use Rattle.replay.specs.Schedule.{actors, named_turns, drawn_turns, rounds, schedule, draw_count, round_bound, round_count}
 use Rattle.replay.proofs.ActionsLeft.{turns_keep}
 use Rattle.replay.proofs.Ends.{runs_end_if_kept}
@@ -23,8 +23,8 @@ use Rattle.replay.proofs.Starts.{length-owners_from}
 
 -- ---- numbers of a replay
 
-pub owner_number : (s : Scenario) (r : Run) (n : ℕ) → r ≡ (replay_of s).run → n ≡ length r.machine.owners → n ≡ length s.owners
-owner_number s r n is count = count ∙ ap (λ (x : Run). length x.machine.owners) is ∙ length-owners_from s.geometry.cells 1 s.owners
+pub owner_number : (s : Scenario) (r : Run) (n : ℕ) → r ≡ (replay_of s).run → n ≡ length r.running.owners → n ≡ length s.owners
+owner_number s r n is count = count ∙ ap (λ (x : Run). length x.running.owners) is ∙ length-owners_from s.geometry.cells 1 s.owners
 
 pub few_draws : (d : Option Drawn) → IfSome d IsDraw → draw_count d ≤ 2 ^ 24
 few_draws None is = omega arith
@@ -90,23 +90,23 @@ scheduled s start named drawn last turns draws n most is ts ds ns first second t
 -- what such a run leaves
 pub record IsDone (s : Scenario) (r : Run) : Type 0 where
   pub opened : r.setting ≡ setting s
-  pub run : IsScheduledRun s r.machine
-  pub kept : IsKept s r.machine
+  pub run : IsScheduledRun s r.running
+  pub kept : IsKept s r.running
 
 pub done : (s : Scenario) (r : Run) (most : ℕ) → IsRunnable s → most ≡ round_count s → r ≡ run_of_schedule s most → IsDone s r
 done s r most runnable bound is = record {
   opened = ap (λ (x : Run). x.setting) is;
   run = record {
-    made = ap (λ (x : Run). x.machine) is ∙ ap (λ (k : ℕ). after_turns (setting s) (machine_at_start s) (schedule s k)) bound;
+    made = ap (λ (x : Run). x.running) is ∙ ap (λ (k : ℕ). after_turns (setting s) (running_at_start s) (schedule s k)) bound;
     ended =
-        subst (λ (x : Run). HaveEnded x.machine) (sym is)
-        (subst (λ (k : ℕ). HaveEnded (run_of_schedule s k).machine) (sym bound) (runs_end_if_kept starts_are_kept turns_are_kept s runnable));
+        subst (λ (x : Run). HaveEnded x.running) (sym is)
+        (subst (λ (k : ℕ). HaveEnded (run_of_schedule s k).running) (sym bound) (runs_end_if_kept starts_are_kept turns_are_kept s runnable));
   };
-  kept = subst (λ (x : Run). IsKept s x.machine) (sym is) (turns_keep s (λ m actor kept. turns_are_kept s m actor runnable kept) (machine_at_start s) (schedule s most) (starts_are_kept s runnable));
+  kept = subst (λ (x : Run). IsKept s x.running) (sym is) (turns_keep s (λ m actor kept. turns_are_kept s m actor runnable kept) (running_at_start s) (schedule s most) (starts_are_kept s runnable));
 }
 
 -- the turns of a replay, made one part after another
-pub finished : (s : Scenario) (start : ReplayState) (named drawn last : Run) (turns : List Turn) (n most : ℕ) → IsRunnable s → start ≡ replay_of s → turns ≡ start.named → n ≡ length start.run.machine.owners
+pub finished : (s : Scenario) (start : ReplayState) (named drawn last : Run) (turns : List Turn) (n most : ℕ) → IsRunnable s → start ≡ replay_of s → turns ≡ start.named → n ≡ length start.run.running.owners
     → most ≡ round_bound start.geometry start.calls (length start.commands) → named ≡ run_after start.run (named_turns turns) → drawn ≡ run_after named (drawn_turns (actors n) start.drawn) → last ≡ run_after drawn (rounds (actors n) most) → IsDone s last
 finished s start named drawn last turns n most runnable is ts count bound first second third =
     done s last most runnable (bound ∙ ap (λ (r : ReplayState). round_bound r.geometry r.calls (length r.commands)) is)

@@ -10,10 +10,13 @@ use Rattle.evac_model.specs.declared.scenario.Scenario.{Scenario}
 use Rattle.evac_model.specs.declared.space.SpaceAction.{SpaceAction}
 use Rattle.evac_model.specs.DeviceAnswer.{DeviceState, device_at_start}
 use Rattle.evac_model.specs.HostCommands.{blocks_of, onlines_of, host_actions, host_lines, host_onlines}
+use Rattle.evac_model.specs.Numbers.{is_in}
 use Rattle.evac_model.specs.Pairing.{actions_of}
+use Rattle.machine.specs.World.{device_now, is_held}
 use Rattle.core_actors.specs.Hosts.{HostState, has_none, host_ended, to_ask, IsHostUnderWay}
-use Rattle.replay.specs.HostKept.{IsHostKept, device_now, line_of_result, next_number}
-use Rattle.replay.specs.Machine.{Machine}
+use Rattle.replay.specs.HostKept.{IsHostKept, line_of_result, next_number}
+use Rattle.replay.specs.Running.{Running}
+use Rattle.replay.specs.Runs.{setting}
 
 -- ---- a host that has ended
 
@@ -36,7 +39,7 @@ module _ (h : HostState) (way : IsHostUnderWay h) (ended : host_ended h ≡ true
       (λ some. absurd (false≢true (sym (way.some some) ∙ ended)))
       (λ none. omega arith)
 
-  pub blocks_at_end : blocks_of h.online ≡ []
+  blocks_at_end : blocks_of h.online ≡ []
   blocks_at_end = ap (λ (n : ℕ). range_with_len h.online.first n) count_at_end
 
   onlines_at_end : onlines_of h.online ≡ []
@@ -48,11 +51,11 @@ module _ (h : HostState) (way : IsHostUnderWay h) (ended : host_ended h ≡ true
   asked_at_end : to_ask h ≡ []
   asked_at_end = none_asked (is_some h.result) h.left (none_left h.left ended)
 
--- ---- the machine whose host has ended
+-- ---- the run whose host has ended
 
-module _ (s : Scenario) (m : Machine) (k : IsHostKept s m) (ended : host_ended m.host ≡ true) where
+module _ (s : Scenario) (m : Running) (k : IsHostKept s m) (ended : host_ended m.host ≡ true) where
   abbrev device : DeviceState
-  device = device_now s m
+  device = device_now (setting s) m.world
 
   -- each command has its line
   pub all_lines : m.lines ≡ host_lines s.geometry (device_at_start s.geometry) 0 s.host
@@ -64,17 +67,21 @@ module _ (s : Scenario) (m : Machine) (k : IsHostKept s m) (ended : host_ended m
       ∙ k.lines)))
 
   -- the device's actions are those of the commands
-  pub all_actions : m.device ≡ host_actions s.geometry (device_at_start s.geometry) s.host
+  pub all_actions : m.world.device ≡ host_actions s.geometry (device_at_start s.geometry) s.host
   all_actions =
-      sym (append-nil m.device)
-      ∙ (ap (λ (cs : List HostCommand). m.device ++ host_actions s.geometry device cs) (sym (asked_at_end m.host k.under_way ended))
+      sym (append-nil m.world.device)
+      ∙ (ap (λ (cs : List HostCommand). m.world.device ++ host_actions s.geometry device cs) (sym (asked_at_end m.host k.under_way ended))
       ∙ k.actions)
 
   -- the driver has put the blocks online that they plugged
-  pub all_onlines : actions_of 0 m.journal ≡ host_onlines s.geometry (device_at_start s.geometry) s.host
+  pub all_onlines : actions_of 0 m.world.space ≡ host_onlines s.geometry (device_at_start s.geometry) s.host
   all_onlines =
-      sym (append-nil (actions_of 0 m.journal))
-      ∙ (sym (append-nil (actions_of 0 m.journal ++ []))
-      ∙ (ap (λ (l : List SpaceAction). actions_of 0 m.journal ++ l ++ []) (sym (onlines_at_end m.host k.under_way ended))
-      ∙ (ap (λ (cs : List HostCommand). actions_of 0 m.journal ++ onlines_of m.host.online ++ host_onlines s.geometry device cs) (sym (asked_at_end m.host k.under_way ended))
+      sym (append-nil (actions_of 0 m.world.space))
+      ∙ (sym (append-nil (actions_of 0 m.world.space ++ []))
+      ∙ (ap (λ (l : List SpaceAction). actions_of 0 m.world.space ++ l ++ []) (sym (onlines_at_end m.host k.under_way ended))
+      ∙ (ap (λ (cs : List HostCommand). actions_of 0 m.world.space ++ onlines_of m.host.online ++ host_onlines s.geometry device cs) (sym (asked_at_end m.host k.under_way ended))
       ∙ k.onlines)))
+
+  -- the driver holds no block
+  pub none_held_at_end : (block : ℕ) → is_held (setting s) m.world block ≡ false
+  none_held_at_end block = sym (k.held block) ∙ ap (λ (blocks : List ℕ). is_in block blocks) (blocks_at_end m.host k.under_way ended)

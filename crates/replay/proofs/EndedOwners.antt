@@ -20,7 +20,7 @@ use Rattle.core_actors.specs.declared.place.Place.TheVariants.{Between, InCall}
 use Rattle.core_actors.specs.Fits.{Holds, has_at, Fits}
 use Rattle.core_actors.specs.Places.{frame_owed}
 use Rattle.replay.specs.Keeping.{IsIdle, IsKept}
-use Rattle.replay.specs.Machine.{Machine}
+use Rattle.replay.specs.Running.{Running}
 use Rattle.replay.specs.Runs.{opening, AllEnded}
 use Rattle.replay.proofs.Members.{there}
 
@@ -55,10 +55,10 @@ module _ (a : OwnerState) (ended : owner_ended a ≡ true) where
         none_held cells size (Between back) h = h
         none_held cells size (InCall at) h = h
 
--- ---- the seats of a machine whose owners have all ended
+-- ---- the seats of a run whose owners have all ended
 
 -- the seat of the owner at a place
-pub record IsEndedSeat (s : Scenario) (m : Machine) (place : ℕ) (v : View) : Type 0 where
+pub record IsEndedSeat (s : Scenario) (m : Running) (place : ℕ) (v : View) : Type 0 where
   pub low : place < length s.owners
   pub owner : OwnerState
   pub here : slice_get m.owners place ≡ Some owner
@@ -69,13 +69,13 @@ pub record IsEndedSeat (s : Scenario) (m : Machine) (place : ℕ) (v : View) : T
   pub callers : AllByRecursion (λ e. e.caller ≡ suc place) v.entries
 
 -- the seat is some owner's
-pub record IsOwners (s : Scenario) (m : Machine) (seat : ℕ) (v : View) : Type 0 where
+pub record IsOwners (s : Scenario) (m : Running) (seat : ℕ) (v : View) : Type 0 where
   pub place : ℕ
   pub is : seat ≡ suc place
   pub ended : IsEndedSeat s m place v
 
-module _ (s : Scenario) (m : Machine) (k : IsKept s m) (ended : AllEnded m.owners) where
-  pub owners_seat : (i : ℕ) (v : View) → i < length s.owners → Has m.snapshot.views (suc i) v → IsEndedSeat s m i v
+module _ (s : Scenario) (m : Running) (k : IsKept s m) (ended : AllEnded m.owners) where
+  pub owners_seat : (i : ℕ) (v : View) → i < length s.owners → Has m.world.snapshot.views (suc i) v → IsEndedSeat s m i v
   owners_seat i v low has =
       let a = there m.owners i (let n = k.seats.owners in omega arith) in
       let done = ended i a.0 a.1 in
@@ -92,12 +92,12 @@ module _ (s : Scenario) (m : Machine) (k : IsKept s m) (ended : AllEnded m.owner
       }
 
   -- a seat is an owner's, or makes no calls
-  pub each_seat : (i : ℕ) (v : View) → Has m.snapshot.views i v → IsOwners s m i v ⊎ IsIdle (opening s) v
+  pub each_seat : (i : ℕ) (v : View) → Has m.world.snapshot.views i v → IsOwners s m i v ⊎ IsIdle (opening s) v
   each_seat zero v has = inr (k.seats.others zero v has (inl refl))
   each_seat (suc i) v has = dite (dec_le (suc i) (length s.owners))
       (λ le. inl (record { place = i; is = refl; ended = owners_seat i v (omega arith) has }))
       (λ gt. inr (k.seats.others (suc i) v has (inr (omega arith))))
 
   -- no page is held
-  pub let_go : AllLetGo m.snapshot.views
+  pub let_go : AllLetGo m.world.snapshot.views
   let_go i v has = ⊎_elim (λ own. own.ended.held) (λ idle. idle.rests.holds_none) (each_seat i v has)

@@ -15,13 +15,14 @@ use Rattle.core_actors.specs.CallSteps.{IsCallOf}
 use Rattle.core_actors.specs.Owners.{OwnerState, owner_at_start}
 use Rattle.core_actors.specs.Counts.{actions_left}
 use Rattle.core_actors.proofs.Left.{few_at_start, none_left}
-use Rattle.replay.specs.Machine.{Machine, after_turn, after_turns}
+use Rattle.replay.specs.Running.{Running, after_turn, after_turns}
 use Rattle.replay.specs.Schedule.{actors, named_turns, drawn_turns, rounds, schedule, round_count}
-use Rattle.replay.specs.Runs.{setting, owners_from, machine_at_start, AllEnded, HaveEnded}
+use Rattle.replay.specs.Runs.{setting, owners_from, running_at_start, AllEnded, HaveEnded}
 use Rattle.replay.specs.Keeping.{IsKept}
-use Rattle.replay.proofs.Turns.{after_turns-append}
-use Rattle.replay.proofs.ActionsLeft.{owner_actions_left, all_actions_left, host_none_left, fits_at, TurnsKeep, turns_keep, turns_never_raise}
+use Rattle.replay.proofs.Acting.{owner_fits}
+use Rattle.replay.proofs.ActionsLeft.{owner_actions_left, all_actions_left, host_none_left, TurnsKeep, turns_keep, turns_never_raise}
 use Rattle.replay.proofs.Rounds.{rounds_end}
+use Rattle.replay.proofs.Turns.{after_turns-append}
 
 -- owners at the start have at most as many actions left as their calls, times the cells of a page and 6
 few_from : (g : Sizes) (k : ℕ) (scripts : List (List (PageNo × Call))) → ((i : ℕ) (a : OwnerState) → slice_get (owners_from g.cells k scripts) i ≡ Some a → AllByRecursion (λ c. IsCallOf g c) a.left)
@@ -36,14 +37,14 @@ few_from g k (script ∷ scripts) all =
     omega arith
 
 -- owners that have no action left have ended
-owners_ended_at : (s : Scenario) (m : Machine) → IsKept s m → owner_actions_left m.owners ≡ 0 → AllEnded m.owners
+owners_ended_at : (s : Scenario) (m : Running) → IsKept s m → owner_actions_left m.owners ≡ 0 → AllEnded m.owners
 owners_ended_at s m kept none i a at =
-    let fits = fits_at s m kept i a at in
+    let fits = (owner_fits s m kept i a at).1 in
     let few = member_le_sum_by actions_left m.owners i a at in
     (none_left a fits.under_way).0 (omega arith)
 
 -- all have ended where no action is left
-ended_at : (s : Scenario) (m : Machine) → IsKept s m → all_actions_left m ≡ 0 → HaveEnded m
+ended_at : (s : Scenario) (m : Running) → IsKept s m → all_actions_left m ≡ 0 → HaveEnded m
 ended_at s m kept none = record {
   owners = owners_ended_at s m kept (omega arith);
   host = (host_none_left m.host kept.host.under_way).0 (omega arith);
@@ -59,36 +60,36 @@ bound_is_enough s =
     let more : s.geometry.managed + 1 ≤ frame_count s.geometry * (11 * s.geometry.cells + 36) + 9 * s.geometry.managed + 4 = omega arith in
     omega (arith, mul-le-mul same more)
 
-module _ (s : Scenario) (keep : TurnsKeep s) (start : IsKept s (machine_at_start s)) where
-  actions_at_start : all_actions_left (machine_at_start s) ≤ most_of_all s
+module _ (s : Scenario) (keep : TurnsKeep s) (start : IsKept s (running_at_start s)) where
+  actions_at_start : all_actions_left (running_at_start s) ≤ most_of_all s
   actions_at_start =
-      let owners = few_from s.geometry 1 s.owners (λ i a at. (fits_at s (machine_at_start s) start i a at).belongs.calls) in
+      let owners = few_from s.geometry 1 s.owners (λ i a at. ((owner_fits s (running_at_start s) start i a at).1).belongs.calls) in
       omega arith
 
-  ends_within : (n : ℕ) → most_of_all s ≤ n → all_actions_left (after_turns (setting s) (machine_at_start s) (schedule s n)) ≡ 0
+  ends_within : (n : ℕ) → most_of_all s ≤ n → all_actions_left (after_turns (setting s) (running_at_start s) (schedule s n)) ≡ 0
   ends_within n enough =
       let all : List Actor = actors (length s.owners) in
       let drawn : List Actor = drawn_turns all s.drawn in
-      let m : Machine = after_turns (setting s) (machine_at_start s) (named_turns s.named) in
-      let m2 : Machine = after_turns (setting s) m drawn in
-      let kept = turns_keep s keep (machine_at_start s) (named_turns s.named) start in
-      let few = turns_never_raise s keep (machine_at_start s) (named_turns s.named) start in
+      let m : Running = after_turns (setting s) (running_at_start s) (named_turns s.named) in
+      let m2 : Running = after_turns (setting s) m drawn in
+      let kept = turns_keep s keep (running_at_start s) (named_turns s.named) start in
+      let few = turns_never_raise s keep (running_at_start s) (named_turns s.named) start in
       let fewer = turns_never_raise s keep m drawn kept in
-      ap all_actions_left (after_turns-append (setting s) (machine_at_start s) (named_turns s.named ++ drawn) (rounds all n)
-      ∙ ap (λ (w : Machine). after_turns (setting s) w (rounds all n)) (after_turns-append (setting s) (machine_at_start s) (named_turns s.named) drawn))
+      ap all_actions_left (after_turns-append (setting s) (running_at_start s) (named_turns s.named ++ drawn) (rounds all n)
+      ∙ ap (λ (w : Running). after_turns (setting s) w (rounds all n)) (after_turns-append (setting s) (running_at_start s) (named_turns s.named) drawn))
       ∙ rounds_end s keep n m2 (turns_keep s keep m drawn kept) (omega (arith, few, fewer, actions_at_start, enough))
 
-  all_end_within : (n : ℕ) → most_of_all s ≤ n → HaveEnded (after_turns (setting s) (machine_at_start s) (schedule s n))
+  all_end_within : (n : ℕ) → most_of_all s ≤ n → HaveEnded (after_turns (setting s) (running_at_start s) (schedule s n))
   all_end_within n enough =
-      ended_at s (after_turns (setting s) (machine_at_start s) (schedule s n)) (turns_keep s keep (machine_at_start s) (schedule s n) start) (ends_within n enough)
+      ended_at s (after_turns (setting s) (running_at_start s) (schedule s n)) (turns_keep s keep (running_at_start s) (schedule s n) start) (ends_within n enough)
 
 -- the two laws that this rests on
 abbrev pub StartsAreKept : Type 0
-StartsAreKept = (s : Scenario) → IsRunnable s → IsKept s (machine_at_start s)
+StartsAreKept = (s : Scenario) → IsRunnable s → IsKept s (running_at_start s)
 
 abbrev pub TurnsAreKept : Type 0
-TurnsAreKept = (s : Scenario) (m : Machine) (actor : Actor) → IsRunnable s → IsKept s m → IsKept s (after_turn (setting s) m actor)
+TurnsAreKept = (s : Scenario) (m : Running) (actor : Actor) → IsRunnable s → IsKept s m → IsKept s (after_turn (setting s) m actor)
 
-pub runs_end_if_kept : StartsAreKept → TurnsAreKept → (s : Scenario) → IsRunnable s → HaveEnded (after_turns (setting s) (machine_at_start s) (schedule s (round_count s)))
+pub runs_end_if_kept : StartsAreKept → TurnsAreKept → (s : Scenario) → IsRunnable s → HaveEnded (after_turns (setting s) (running_at_start s) (schedule s (round_count s)))
 runs_end_if_kept starts turns s run =
     all_end_within s (λ m actor kept. turns s m actor run kept) (starts s run) (round_count s) (bound_is_enough s)

@@ -1,8 +1,8 @@
 -- The blocks that the driver is to put online, behind what the host hears of its action.
 use Rattle.std.proofs.Common.{◌≡◌, ℕ, suc, ◌+◌, ◌-◌, ◌≤◌, ◌==◌, Bool, true, false, not, ◌&&◌, if◌then◌else◌, List, [], ◌∷◌, refl, sym, ap, ◌∙◌, arith, inl, inr, Some}
 use Rattle.std.specs.List.{range_with_len}
-use Rattle.std.proofs.Math.Bool.{or-false, and-false, and-true}
-use Rattle.std.proofs.lemmas.Bool.{eqb-true, eqb-false, eq-eqb, ne_eqb, cases_order, cases_lt}
+use Rattle.std.proofs.Math.Bool.{and-false, and-true}
+use Rattle.std.proofs.lemmas.Bool.{eqb-true, eq-eqb, ne_eqb, cases_order, cases_lt}
 use Rattle.evac_model.specs.declared.device.Config.{Config}
 use Rattle.evac_model.specs.declared.device.Response.{Response}
 use Rattle.evac_model.specs.declared.host.HostCommand.{HostCommand}
@@ -12,15 +12,12 @@ use Rattle.evac_model.specs.declared.names.BlockNo.{BlockNo}
 use Rattle.evac_model.specs.Numbers.{is_in, is_between}
 use Rattle.evac_model.specs.DeviceAnswer.{request_in}
 use Rattle.evac_model.specs.HostCommands.{BlockRange, no_blocks, blocks_of, plugged_by}
-use Rattle.evac_model.proofs.Ranges.{between_inside, between_below, between_above}
-use Rattle.core_actors.specs.declared.action.Action.TheVariants as actions
-use Rattle.core_actors.specs.declared.action.DeviceCall.TheVariants as device_calls
-use Rattle.core_actors.specs.declared.action.DeviceHeard.TheVariants as device_heard
-use Rattle.core_actors.specs.declared.action.Heard.{Heard}
-use Rattle.core_actors.specs.declared.action.Heard.TheVariants as heard
-use Rattle.core_actors.specs.declared.action.SpaceCall.TheVariants.{Online}
-use Rattle.core_actors.specs.Hosts.{HostState, host_action, action_for, device_call, host_after, host_after_at, command_ended, with_result, result_in, result_now, plugged_in, but_first}
 use Rattle.evac_model.proofs.Members.{is_in-range_with_len}
+use Rattle.evac_model.proofs.Ranges.{between_inside, between_below, between_above}
+use Rattle.machine.specs.declared.action.DeviceHeard.TheVariants as device_heard
+use Rattle.machine.specs.declared.action.Heard.{Heard}
+use Rattle.machine.specs.declared.action.Heard.TheVariants as heard
+use Rattle.core_actors.specs.Hosts.{HostState, host_after, host_after_at, command_ended, with_result, result_in, result_now, plugged_in, but_first}
 
 -- a host that asks the device for its first command: no blocks are to be put online
 pub record IsAsking (h : HostState) (c : HostCommand) : Type 0 where
@@ -36,57 +33,7 @@ pub record IsPutting (h : HostState) (b : BlockNo) : Type 0 where
   pub rest : List HostCommand
   pub left : h.left ≡ command ∷ rest
 
--- ---- which action is the next
-
-same_request : (c : HostCommand) (bytes : List ℕ) → actions.Device (device_call c) ≡ actions.Device (device_calls.Request bytes) → c ≡ commands.Request bytes
-same_request (commands.Request these) bytes e = let same : these ≡ bytes = cc in ap (λ (l : List ℕ). commands.Request l) same
-same_request commands.Config bytes e = absurd (cc)
-
-same_config : (c : HostCommand) → actions.Device (device_call c) ≡ actions.Device device_calls.Config → c ≡ commands.Config
-same_config (commands.Request these) e = absurd (cc)
-same_config commands.Config e = refl
-
-same_block_no : (first : ℕ) (b : BlockNo) → actions.Space (Online (record { 0 = first })) ≡ actions.Space (Online b) → b.0 ≡ first
-same_block_no first b e = cc
-
-asks : (c d : HostCommand) (n first : ℕ) (b : Bool) → (n == 0) ≡ b → (if b then actions.Device (device_call c) else actions.Space (Online (record { 0 = first }))) ≡ actions.Device (device_call d) → (n ≡ 0) × (actions.Device (device_call c) ≡ actions.Device (device_call d))
-asks c d n first true is e = (eqb-true n 0 is, e)
-asks c d n first false is e = absurd (cc)
-
-puts : (c : HostCommand) (n first : ℕ) (block : BlockNo) (b : Bool) → (n == 0) ≡ b → (if b then actions.Device (device_call c) else actions.Space (Online (record { 0 = first }))) ≡ actions.Space (Online block) → (1 ≤ n) × (block.0 ≡ first)
-puts c n first block true is e = absurd (cc)
-puts c n first block false is e = (let other = eqb-false n 0 is in omega arith, same_block_no first block e)
-
 module _ (h : HostState) where
-  asking_request : (left : List HostCommand) → h.left ≡ left → (bytes : List ℕ) → action_for left h.online ≡ actions.Device (device_calls.Request bytes) → IsAsking h (commands.Request bytes)
-  asking_request [] is bytes e = absurd (cc)
-  asking_request (c ∷ cs) is bytes e =
-      let q = asks c (commands.Request bytes) h.online.count h.online.first (h.online.count == 0) refl e in
-      record { rest = cs; left = is ∙ ap (λ (x : HostCommand). x ∷ cs) (same_request c bytes q.1); none = q.0 }
-
-  asking_config : (left : List HostCommand) → h.left ≡ left → action_for left h.online ≡ actions.Device device_calls.Config → IsAsking h commands.Config
-  asking_config [] is e = absurd (cc)
-  asking_config (c ∷ cs) is e =
-      let q = asks c commands.Config h.online.count h.online.first (h.online.count == 0) refl e in
-      record { rest = cs; left = is ∙ ap (λ (x : HostCommand). x ∷ cs) (same_config c q.1); none = q.0 }
-
-  putting : (left : List HostCommand) → h.left ≡ left → (b : BlockNo) → action_for left h.online ≡ actions.Space (Online b) → IsPutting h b
-  putting [] is b e = absurd (cc)
-  putting (c ∷ cs) is b e =
-      let q = puts c h.online.count h.online.first b (h.online.count == 0) refl e in
-      record { first = q.1; some = q.0; command = c; rest = cs; left = is }
-
-  pub asks_request : (bytes : List ℕ) → host_action h ≡ actions.Device (device_calls.Request bytes) → IsAsking h (commands.Request bytes)
-  asks_request bytes e = asking_request h.left refl bytes e
-
-  pub asks_config : host_action h ≡ actions.Device device_calls.Config → IsAsking h commands.Config
-  asks_config e = asking_config h.left refl e
-
-  pub puts_online : (b : BlockNo) → host_action h ≡ actions.Space (Online b) → IsPutting h b
-  puts_online b e = putting h.left refl b e
-
-  -- ---- the blocks then
-
   -- with no blocks the command ends
   module _ (result : HostResult) (r : BlockRange) where
     abbrev chosen : Bool → HostState
@@ -128,15 +75,11 @@ module _ (h : HostState) where
 
 -- ---- blocks but the first
 
--- the first block alone
-pub is_in-one : (first b : ℕ) → is_in b (range_with_len first 1) ≡ (b == first)
-is_in-one first b = or-false (b == first)
-
-pub is_in-but_first : (r : BlockRange) (b : ℕ) → 1 ≤ r.count → is_in b (blocks_of (but_first r)) ≡ (is_in b (blocks_of r) && not (is_in b (range_with_len r.first 1)))
+pub is_in-but_first : (r : BlockRange) (b : ℕ) → 1 ≤ r.count → is_in b (blocks_of (but_first r)) ≡ (is_in b (blocks_of r) && not (b == r.first))
 is_in-but_first r b some =
     is_in-range_with_len b (suc r.first) (r.count - 1)
     ∙ (by_place
-    ∙ sym (ap (λ (t : Bool). t && not (is_in b (range_with_len r.first 1))) (is_in-range_with_len b r.first r.count)))
+    ∙ sym (ap (λ (t : Bool). t && not (b == r.first)) (is_in-range_with_len b r.first r.count)))
   where
     at_end : (t u : Bool) → u ≡ true → t && not u ≡ false
     at_end t u e = ap (λ (z : Bool). t && not z) e ∙ and-false t
@@ -144,14 +87,14 @@ is_in-but_first r b some =
     inner : (t u v : Bool) → t ≡ v → u ≡ false → t ≡ (v && not u)
     inner t u v e f = e ∙ sym (ap (λ (z : Bool). v && not z) f ∙ and-true v)
 
-    by_place : is_between (suc r.first) (suc r.first + (r.count - 1)) b ≡ (is_between r.first (r.first + r.count) b && not (is_in b (range_with_len r.first 1)))
+    by_place : is_between (suc r.first) (suc r.first + (r.count - 1)) b ≡ (is_between r.first (r.first + r.count) b && not (b == r.first))
     by_place = elim (cases_order b r.first) [
-      | inl e ↦ between_below (suc r.first) (suc r.first + (r.count - 1)) b (omega arith) ∙ sym (at_end _ _ (is_in-one r.first b ∙ eq-eqb b r.first e))
+      | inl e ↦ between_below (suc r.first) (suc r.first + (r.count - 1)) b (omega arith) ∙ sym (at_end _ _ (eq-eqb b r.first e))
       | inr other ↦ inner _ _ _ (elim other [
         | inl l ↦ between_below (suc r.first) (suc r.first + (r.count - 1)) b (omega arith) ∙ sym (between_below r.first (r.first + r.count) b l)
         | inr g ↦ elim (cases_lt b (r.first + r.count)) [
           | inl within ↦ between_inside (suc r.first) (suc r.first + (r.count - 1)) b (omega arith) (omega arith) ∙ sym (between_inside r.first (r.first + r.count) b (omega arith) within)
           | inr past ↦ between_above (suc r.first) (suc r.first + (r.count - 1)) b (omega arith) ∙ sym (between_above r.first (r.first + r.count) b past)
         ]
-      ]) (is_in-one r.first b ∙ ne_eqb b r.first (λ e. elim other [ inl l ↦ omega (arith, e, l) | inr g ↦ omega (arith, e, g) ]))
+      ]) (ne_eqb b r.first (λ e. elim other [ inl l ↦ omega (arith, e, l) | inr g ↦ omega (arith, e, g) ]))
     ]

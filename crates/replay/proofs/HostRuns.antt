@@ -1,6 +1,6 @@
 -- What the host and the memory device have done, and what is still to come, is what the commands do: at the start,
 -- and after each turn of each actor.
-use Rattle.std.proofs.Common.{◌≡◌, ◌≢◌, ℕ, zero, suc, ◌+◌, ◌-◌, ◌≤◌, ◌==◌, Bool, true, false, if◌then◌else◌, List, [], ◌∷◌, ◌++◌, length, append_assoc, append-nil, refl, sym, ap, ◌∙◌, subst, arith, Option, Some, None}
+use Rattle.std.proofs.Common.{◌≡◌, ◌≢◌, ℕ, zero, suc, ◌+◌, ◌-◌, ◌<◌, ◌≤◌, ◌==◌, Bool, true, false, not, ◌&&◌, ◌||◌, if◌then◌else◌, List, [], ◌∷◌, ◌++◌, length, append_assoc, append-nil, refl, sym, ap, ◌∙◌, subst, arith, Option, Some, None}
 use Rattle.std.specs.List.{AllByRecursion}
 use Rattle.std.proofs.lemmas.Bool.{eqb-true, eqb-false}
 use Rattle.evac_model.specs.declared.device_journal.DeviceAction.{DeviceAction}
@@ -10,6 +10,7 @@ use Rattle.evac_model.specs.declared.host.HostCommand.TheVariants as commands
 use Rattle.evac_model.specs.declared.host.HostLine.{HostLine}
 use Rattle.evac_model.specs.declared.host.HostResult.{HostResult}
 use Rattle.evac_model.specs.declared.host.HostResult.TheVariants as results
+use Rattle.evac_model.specs.declared.names.BlockNo.{BlockNo}
 use Rattle.evac_model.specs.declared.names.Kind.{Kind}
 use Rattle.evac_model.specs.declared.names.PageNo.{PageNo}
 use Rattle.evac_model.specs.declared.scenario.Actor.{Actor}
@@ -17,29 +18,39 @@ use Rattle.evac_model.specs.declared.scenario.Scenario.{Scenario}
 use Rattle.evac_model.specs.declared.space.SpaceAction.{SpaceAction}
 use Rattle.evac_model.specs.declared.space.SpaceAction.TheVariants as space
 use Rattle.evac_model.specs.Geometry.{Sizes, first_frame}
-use Rattle.evac_model.specs.DeviceAnswer.{DeviceState, request_in, device_after, device_at_start, config_of}
-use Rattle.evac_model.specs.HostCommands.{BlockRange, no_blocks, onlines_of, answer_to, request_action, plugged_by, command_result, command_actions, command_range, after_command, host_actions, host_onlines, host_lines, AreAnswered}
+use Rattle.evac_model.specs.DeviceAnswer.{DeviceState, request_in, device_at_start, config_of}
+use Rattle.evac_model.specs.HostCommands.{BlockRange, no_blocks, blocks_of, onlines_of, answer_to, request_action, plugged_by, command_result, command_actions, command_range, after_command, host_actions, host_onlines, host_lines}
+use Rattle.evac_model.specs.Numbers.{is_in}
 use Rattle.evac_model.specs.Pairing.{caller_of, actions_of}
 use Rattle.evac_model.specs.Scenarios.{IsHostCommand, IsRunnable}
 use Rattle.evac_model.specs.ScenarioGrammar.{online_of}
 use Rattle.evac_model.specs.SpaceJournal.{Leased, lease_of}
 use Rattle.core_state.specs.declared.snapshot.Snapshot.{Snapshot}
-use Rattle.core_actors.specs.declared.action.Action.{Action}
-use Rattle.core_actors.specs.declared.action.Action.TheVariants as actions
-use Rattle.core_actors.specs.declared.action.DeviceHeard.TheVariants as device_heard
-use Rattle.core_actors.specs.declared.action.Heard.{Heard}
-use Rattle.core_actors.specs.declared.action.Heard.TheVariants as heard
-use Rattle.core_actors.specs.declared.action.SpaceCall.TheVariants.{Lease, Return, Online}
+use Rattle.mem_device.proofs.Journals.{device_after-push}
+use Rattle.machine.specs.declared.action.Action.{Action}
+use Rattle.machine.specs.declared.action.Action.TheVariants as actions
+use Rattle.machine.specs.declared.action.DeviceCall.TheVariants as device_calls
+use Rattle.machine.specs.declared.action.DeviceHeard.TheVariants as device_heard
+use Rattle.machine.specs.declared.action.Heard.{Heard}
+use Rattle.machine.specs.declared.action.Heard.TheVariants as heard
+use Rattle.machine.specs.declared.action.SpaceCall.TheVariants.{Lease, Return, Online}
+use Rattle.machine.specs.Made.{Made, handed_frames, handed_blocks, lease_made, made}
+use Rattle.machine.specs.MayMake.{MayPutOnline, MayRequest, MayMake}
+use Rattle.machine.specs.World.{free_seat, unplugged_seat, space_now, device_at, device_now, is_held}
+use Rattle.machine.proofs.Elsewhere.{held_stays}
+use Rattle.machine.proofs.OnlinesKept.{held_online}
+use Rattle.machine.proofs.Opened.{opened_none}
+use Rattle.machine.proofs.RequestsKept.{held_request}
 use Rattle.core_actors.specs.Hosts.{HostState, action_for, device_call, has_none, host_after, line_after, with_result, line_with, command_ended, but_first, to_ask, plugged_in, IsHostUnderWay}
 use Rattle.core_actors.specs.Owners.{OwnerState, next_action}
 use Rattle.core_actors.proofs.HostCounts.{plugged_in_within}
 use Rattle.core_actors.proofs.HostPlaces.{online_next, state_heard, line_heard_is}
-use Rattle.mem_device.proofs.Journals.{device_after-push}
-use Rattle.replay.specs.FramesOut.{space_now}
 use Rattle.replay.specs.HostKept.{line_of_result, next_number, IsHostKept}
 use Rattle.replay.specs.Keeping.{IsKept}
-use Rattle.replay.specs.Machine.{Machine, Scene, free_seat, unplugged_seat, handed_frames, handed_blocks, device_at, line_list, owner_of, scene_of, with_scene, after_lease, after_action, host_scene_of, with_host_scene, after_host_action, after_turn}
-use Rattle.replay.specs.Runs.{setting, machine_at_start}
+use Rattle.replay.specs.Running.{Running, line_list, owner_of, owner_acted, host_acted, after_turn}
+use Rattle.replay.specs.Runs.{setting, budgets_of, running_at_start}
+use Rattle.replay.proofs.Acting.{setting_fits, owner_seat, may_act, host_may_act}
+use Rattle.replay.proofs.HostBlocks.{IsAsking, IsPutting, blocks_asking, blocks_answered, blocks_configured, blocks_put, is_in-but_first}
 use Rattle.replay.proofs.MadeLists.{own_push, other_push}
 use Rattle.replay.proofs.TurnCases.{turn_cases}
 
@@ -89,14 +100,6 @@ module _ (g : Sizes) (number : ℕ) (c : HostCommand) (cs : List HostCommand) (r
 
 -- ---- the device's journal
 
-answered_more : (s : Sizes) (d : DeviceState) (journal more : List DeviceAction) → AreAnswered s d journal → AreAnswered s (device_after s d journal) more → AreAnswered s d (journal ++ more)
-answered_more s d [] more h g = g
-answered_more s d (a ∷ journal) more h g = (h.0, answered_more s (device_after s d (a ∷ [])) journal more h.1 g)
-
-command_answered : (s : Sizes) (d : DeviceState) (c : HostCommand) → AreAnswered s d (command_actions s d c)
-command_answered s d (commands.Request bytes) = (refl, tt)
-command_answered s d commands.Config = tt
-
 behind_command : (s : Sizes) (journal : List DeviceAction) (c : HostCommand) → device_at s (journal ++ command_actions s (device_at s journal) c) ≡ after_command s (device_at s journal) c
 behind_command s journal (commands.Request bytes) = device_after-push s (device_at_start s) journal (request_action bytes (answer_to s (device_at s journal) bytes))
 behind_command s journal commands.Config = ap (λ (l : List DeviceAction). device_at s l) (append-nil journal)
@@ -113,14 +116,54 @@ first_online first n =
     ap (λ (k : ℕ). space.Online (record { 0 = first }) ∷ onlines_of (record { first = k; count = n })) next
     ∙ ap (λ (k : ℕ). space.Online (record { 0 = first }) ∷ onlines_of (record { first = suc first; count = k })) (sym rest)
 
+-- ---- the blocks that the driver holds
+
+-- the run behind an action of the host
+abbrev Behind : Scenario → Running → Action → Running
+Behind s m x = host_acted m (made (setting s) 0 m.world x)
+
+-- the blocks that are to be put online are those that the driver holds
+abbrev AreHeld : Scenario → Running → Type 0
+AreHeld s m = (block : ℕ) → is_in block (blocks_of m.host.online) ≡ is_held (setting s) m.world block
+
+module _ (s : Scenario) (m : Running) (r : IsRunnable s) (k : IsKept s m) where
+  -- before the host asks it holds none
+  none_held : (c : HostCommand) → IsAsking m.host c → (block : ℕ) → is_held (setting s) m.world block ≡ false
+  none_held c q block = sym (k.host.held block) ∙ ap (λ (l : List ℕ). is_in block l) (blocks_asking m.host c q)
+
+  held_requested : (bytes : List ℕ) → IsAsking m.host (commands.Request bytes) → MayRequest (setting s) 0 m.world bytes → AreHeld s (Behind s m (actions.Device (device_calls.Request bytes)))
+  held_requested bytes q may block =
+      let response : Response = answer_to s.geometry (device_now (setting s) m.world) bytes in
+      ap (λ (l : List ℕ). is_in block l) (blocks_answered m.host bytes response q)
+      ∙ (ap (λ (g : Sizes). is_in block (blocks_of (plugged_by g (request_in bytes) response))) k.host.sizes
+      ∙ (sym (ap (λ (t : Bool). t || is_in block (blocks_of (plugged_by s.geometry (request_in bytes) response))) (none_held (commands.Request bytes) q block))
+      ∙ sym (held_request (setting s) m.world bytes (setting_fits s r) k.world may block)))
+
+  held_configured : IsAsking m.host commands.Config → AreHeld s (Behind s m (actions.Device device_calls.Config))
+  held_configured q block =
+      ap (λ (l : List ℕ). is_in block l) (blocks_configured m.host (config_of s.geometry (device_now (setting s) m.world)) q)
+      ∙ sym (none_held commands.Config q block)
+
+  held_put : (b : BlockNo) → IsPutting m.host b → MayPutOnline (setting s) 0 m.world b → AreHeld s (Behind s m (actions.Space (Online b)))
+  held_put b q may block =
+      ap (λ (l : List ℕ). is_in block l) (blocks_put m.host b heard.Nothing q)
+      ∙ (is_in-but_first m.host.online block q.some
+      ∙ (ap (λ (n : ℕ). is_in block (blocks_of m.host.online) && not (block == n)) (sym q.first)
+      ∙ (ap (λ (t : Bool). t && not (block == b.0)) (k.host.held block)
+      ∙ sym (held_online (setting s) m.world b (setting_fits s r) k.world may block))))
+
 -- ---- the host's actions
 
-module _ (s : Scenario) (snapshot : Snapshot) (owners : List OwnerState) (journal : List SpaceAction) (lines : List HostLine) (device : List DeviceAction) (sizes : Sizes) (number : ℕ) where
+module _ (s : Scenario) (run : IsRunnable s) (snapshot : Snapshot) (owners : List OwnerState) (journal : List SpaceAction) (lines : List HostLine) (device : List DeviceAction) (sizes : Sizes) (number : ℕ) where
   abbrev host : List HostCommand → Option HostResult → BlockRange → HostState
   host left result online = record { sizes = sizes; left = left; number = number; result = result; online = online }
 
-  abbrev Here : List HostCommand → Option HostResult → BlockRange → Machine
-  Here left result online = record { snapshot = snapshot; owners = owners; journal = journal; host = host left result online; lines = lines; device = device }
+  abbrev Here : List HostCommand → Option HostResult → BlockRange → Running
+  Here left result online = record { world = record { snapshot = snapshot; space = journal; device = device }; owners = owners; host = host left result online; lines = lines }
+
+  -- the run with another snapshot, other journals and another host, which gave that line
+  abbrev There : Snapshot → List SpaceAction → List DeviceAction → HostState → Option HostLine → Running
+  There x calls answers b line = record { world = record { snapshot = x; space = calls; device = answers }; owners = owners; host = b; lines = lines ++ line_list line }
 
   abbrev g : Sizes
   g = s.geometry
@@ -132,8 +175,8 @@ module _ (s : Scenario) (snapshot : Snapshot) (owners : List OwnerState) (journa
     -- the device is asked
     module _ (first : ℕ) (p : IsHostKept s (Here (c ∷ cs) None (record { first = first; count = 0 }))) where
       asked : (x : Snapshot) (b : HostState) (line : Option HostLine) (after : List DeviceAction) → HasResult sizes number c cs (command_result g d c) (command_range g d c) b line
-          → after ≡ device ++ command_actions g d c → IsHostKept s (record { snapshot = x; owners = owners; journal = journal; host = b; lines = lines ++ line_list line; device = after })
-      asked x b line after q is =
+          → after ≡ device ++ command_actions g d c → AreHeld s (There x journal after b line) → IsHostKept s (There x journal after b line)
+      asked x b line after q is held =
           let behind : device_at g after ≡ after_command g d c = ap (λ (l : List DeviceAction). device_at g l) is ∙ behind_command g device c in
           let new : HostLine = record { no = number; result = command_result g d c } in
           record {
@@ -147,15 +190,17 @@ module _ (s : Scenario) (snapshot : Snapshot) (owners : List OwnerState) (journa
             onlines = rw (behind, q.to_ask, q.onlines)
                 (append_assoc (actions_of 0 journal) (onlines_of (command_range g d c)) (host_onlines g (after_command g d c) cs)
                 ∙ (ap (λ (l : List SpaceAction). l ++ host_onlines g d (c ∷ cs)) (sym (append-nil (actions_of 0 journal))) ∙ p.onlines));
-            answered = subst (λ (l : List DeviceAction). AreAnswered g (device_at_start g) l) (sym is)
-                (answered_more g (device_at_start g) device (command_actions g d c) p.answered (command_answered g d c));
+            held = held;
           }
 
     -- a block is put online
     module _ (given : HostResult) (first n : ℕ) (p : IsHostKept s (Here (c ∷ cs) (Some given) (record { first = first; count = suc n }))) where
+      abbrev put : List SpaceAction
+      put = journal ++ space.Online (record { 0 = first }) ∷ []
+
       put_online : (x : Snapshot) (b : HostState) (line : Option HostLine) → HasResult sizes number c cs given (but_first (record { first = first; count = suc n })) b line
-          → IsHostKept s (record { snapshot = x; owners = owners; journal = journal ++ space.Online (record { 0 = first }) ∷ []; host = b; lines = lines ++ line_list line; device = device })
-      put_online x b line q =
+          → AreHeld s (There x put device b line) → IsHostKept s (There x put device b line)
+      put_online x b line q held =
           let new : HostLine = record { no = number; result = given } in
           let online : SpaceAction = space.Online (record { 0 = first }) in
           record {
@@ -169,104 +214,110 @@ module _ (s : Scenario) (snapshot : Snapshot) (owners : List OwnerState) (journa
                 (append_assoc (actions_of 0 journal) (online ∷ []) (onlines_of (but_first (record { first = first; count = suc n })))
                 ∙ ap (λ (l : List SpaceAction). actions_of 0 journal ++ l) (sym (first_online first n)))
                 ∙ p.onlines);
-            answered = p.answered;
+            held = held;
           }
 
   -- ---- the host's next action
 
-  -- the machine after the action x
-  abbrev After : Machine → Action → Machine
-  After m x = with_host_scene m (after_host_action s.geometry (free_seat (length m.owners)) (unplugged_seat (length m.owners)) (host_scene_of m) x)
-
-  command_kept : (c : HostCommand) (cs : List HostCommand) (first : ℕ) → IsHostKept s (Here (c ∷ cs) None (record { first = first; count = 0 }))
-      → IsHostKept s (After (Here (c ∷ cs) None (record { first = first; count = 0 })) (actions.Device (device_call c)))
-  command_kept (commands.Request bytes) cs first p =
+  command_kept : (c : HostCommand) (cs : List HostCommand) (first : ℕ) → IsKept s (Here (c ∷ cs) None (record { first = first; count = 0 }))
+      → IsHostKept s (Behind s (Here (c ∷ cs) None (record { first = first; count = 0 })) (actions.Device (device_call c)))
+  command_kept (commands.Request bytes) cs first k =
       let c : HostCommand = commands.Request bytes in
       let given : HostResult = command_result g d c in
       let response : Response = answer_to g d bytes in
       let now : HostState = host (c ∷ cs) None (record { first = first; count = 0 }) in
+      let here : Running = Here (c ∷ cs) None (record { first = first; count = 0 }) in
       let told : Heard = heard.Device (device_heard.Answered response) in
-      asked c cs first p (handed_blocks g snapshot (unplugged_seat (length owners)) 0 (plugged_by g (request_in bytes) response)) (host_after now told) (line_after now told) (device ++ request_action bytes response ∷ [])
+      asked c cs first k.host (handed_blocks g snapshot (unplugged_seat (setting s)) 0 (plugged_by g (request_in bytes) response)) (host_after now told) (line_after now told) (device ++ request_action bytes response ∷ [])
       (subst (λ (r : BlockRange). HasResult sizes number c cs given r (host_after now told) (line_after now told))
-      (ap (λ (k : Sizes). plugged_by k (request_in bytes) response) p.sizes)
+      (ap (λ (z : Sizes). plugged_by z (request_in bytes) response) k.host.sizes)
       (has_result sizes number c cs None (record { first = first; count = 0 }) given (plugged_in sizes c given) (plugged_in_within sizes c given)))
       refl
-  command_kept commands.Config cs first p =
-      asked commands.Config cs first p snapshot _ _ device
+      (held_requested s here run k bytes (record { rest = cs; left = refl; none = refl }) (host_may_act s here run k))
+  command_kept commands.Config cs first k =
+      let here : Running = Here (commands.Config ∷ cs) None (record { first = first; count = 0 }) in
+      asked commands.Config cs first k.host snapshot _ _ device
       (has_result sizes number commands.Config cs None (record { first = first; count = 0 }) (results.Config (config_of g d)) no_blocks (omega arith))
       (sym (append-nil device))
+      (held_configured s here run k (record { rest = cs; left = refl; none = refl }))
 
-  online_kept : (c : HostCommand) (cs : List HostCommand) (given : HostResult) (first n : ℕ) → IsHostKept s (Here (c ∷ cs) (Some given) (record { first = first; count = suc n }))
-      → IsHostKept s (After (Here (c ∷ cs) (Some given) (record { first = first; count = suc n })) (action_for (c ∷ cs) (record { first = first; count = suc n })))
-  online_kept c cs given first n p =
+  online_kept : (c : HostCommand) (cs : List HostCommand) (given : HostResult) (first n : ℕ) → IsKept s (Here (c ∷ cs) (Some given) (record { first = first; count = suc n }))
+      → IsHostKept s (Behind s (Here (c ∷ cs) (Some given) (record { first = first; count = suc n })) (action_for (c ∷ cs) (record { first = first; count = suc n })))
+  online_kept c cs given first n k =
       let r : BlockRange = record { first = first; count = suc n } in
       let now : HostState = host (c ∷ cs) (Some given) r in
-      let within = p.under_way.managed in
-      subst (λ (x : Action). IsHostKept s (After (Here (c ∷ cs) (Some given) r) x))
-      (online_next now first refl (omega arith) refl)
-      (put_online c cs given first n p (handed_frames snapshot 0 (free_seat (length owners)) (first_frame g first) g.block) (host_after now heard.Nothing) (line_after now heard.Nothing)
-      (subst (λ (b : HostState). HasResult sizes number c cs given (but_first r) b (line_after now heard.Nothing))
+      let here : Running = Here (c ∷ cs) (Some given) r in
+      let b : BlockNo = record { 0 = first } in
+      let next : actions.Space (Online b) ≡ action_for (c ∷ cs) r = online_next now first refl (omega arith) refl in
+      let within = k.host.under_way.managed in
+      subst (λ (x : Action). IsHostKept s (Behind s here x)) next
+      (put_online c cs given first n k.host (handed_frames snapshot 0 (free_seat (setting s)) (first_frame g first) g.block) (host_after now heard.Nothing) (line_after now heard.Nothing)
+      (subst (λ (a : HostState). HasResult sizes number c cs given (but_first r) a (line_after now heard.Nothing))
       (state_heard now heard.Nothing given (suc first) (suc n - 1) refl (omega arith) refl (omega arith) refl)
       (subst (λ (line : Option HostLine). HasResult sizes number c cs given (but_first r) (with_result now given (but_first r)) line)
       (line_heard_is now heard.Nothing given (suc first) (suc n - 1) refl (omega arith) refl (omega arith) refl)
-      (has_result sizes number c cs (Some given) r given (but_first r) (omega arith)))))
+      (has_result sizes number c cs (Some given) r given (but_first r) (omega arith))))
+      (held_put s here run k b (record { first = refl; some = omega arith; command = c; rest = cs; left = refl })
+      (subst (λ (x : Action). MayMake (setting s) 0 here.world x) (sym next) (host_may_act s here run k))))
 
-  action_kept : (left : List HostCommand) (result : Option HostResult) (first count : ℕ) → has_none left ≡ false → IsHostKept s (Here left result (record { first = first; count = count }))
-      → IsHostKept s (After (Here left result (record { first = first; count = count })) (action_for left (record { first = first; count = count })))
-  action_kept [] result first count going p = absurd (cc)
-  action_kept (c ∷ cs) None first zero going p = command_kept c cs first p
-  action_kept (c ∷ cs) None first (suc n) going p = absurd (let e = p.under_way.asked.1 (omega arith) in cc)
-  action_kept (c ∷ cs) (Some given) first zero going p = absurd (let some = p.under_way.asked.0 refl in omega arith)
-  action_kept (c ∷ cs) (Some given) first (suc n) going p = online_kept c cs given first n p
+  action_kept : (left : List HostCommand) (result : Option HostResult) (first count : ℕ) → has_none left ≡ false → IsKept s (Here left result (record { first = first; count = count }))
+      → IsHostKept s (Behind s (Here left result (record { first = first; count = count })) (action_for left (record { first = first; count = count })))
+  action_kept [] result first count going k = absurd (cc)
+  action_kept (c ∷ cs) None first zero going k = command_kept c cs first k
+  action_kept (c ∷ cs) None first (suc n) going k = absurd (let e = k.host.under_way.asked.1 (omega arith) in cc)
+  action_kept (c ∷ cs) (Some given) first zero going k = absurd (let some = k.host.under_way.asked.0 refl in omega arith)
+  action_kept (c ∷ cs) (Some given) first (suc n) going k = online_kept c cs given first n k
 
 -- ---- the owners' actions
 
--- the journal has no more actions of the driver
-same_driver : (s : Scenario) (m n : Machine) → IsHostKept s m → n.host ≡ m.host → n.lines ≡ m.lines → n.device ≡ m.device → actions_of 0 n.journal ≡ actions_of 0 m.journal → IsHostKept s n
-same_driver s m n p same_host same_lines same_device same_journal = record {
-  sizes = rw same_host p.sizes;
-  under_way = rw same_host p.under_way;
-  commands = rw same_host p.commands;
-  lines = rw (same_host, same_lines, same_device) p.lines;
-  actions = rw (same_host, same_device) p.actions;
-  onlines = rw (same_host, same_device, same_journal) p.onlines;
-  answered = rw same_device p.answered;
-}
+module _ (s : Scenario) (m : Running) (r : IsRunnable s) (k : IsKept s m) (i : ℕ) (below : i < length m.owners) where
+  -- the journals have no more actions of the driver and of the device, and the driver holds what it held
+  longer : (x : Made) → x.world.device ≡ m.world.device → actions_of 0 x.world.space ≡ actions_of 0 m.world.space
+      → ((block : ℕ) → is_held (setting s) x.world block ≡ is_held (setting s) m.world block) → IsHostKept s (owner_acted m (suc i) x)
+  longer x same_device same_space same_held = record {
+    sizes = k.host.sizes;
+    under_way = k.host.under_way;
+    commands = k.host.commands;
+    lines = rw same_device k.host.lines;
+    actions = rw same_device k.host.actions;
+    onlines = rw (same_device, same_space) k.host.onlines;
+    held = λ block. k.host.held block ∙ sym (same_held block);
+  }
 
-module _ (s : Scenario) (m : Machine) (p : IsHostKept s m) (i : ℕ) where
-  -- the scene of an owner has neither the host, nor its lines, nor the device's journal
-  longer : (x : Scene) → actions_of 0 x.journal ≡ actions_of 0 m.journal → IsHostKept s (with_scene m (suc i) x)
-  longer x same = same_driver s m (with_scene m (suc i) x) p refl refl refl same
+  pushed : (a : SpaceAction) → caller_of a ≡ suc i → actions_of 0 (m.world.space ++ a ∷ []) ≡ actions_of 0 m.world.space
+  pushed a mine = other_push 0 m.world.space a (λ e. omega arith)
 
-  pushed : (a : SpaceAction) → caller_of a ≡ suc i → actions_of 0 (m.journal ++ a ∷ []) ≡ actions_of 0 m.journal
-  pushed a mine = other_push 0 m.journal a (λ e. omega arith)
+  held_still : (x : Action) → MayMake (setting s) (suc i) m.world x → (block : ℕ) → is_held (setting s) (made (setting s) (suc i) m.world x).world block ≡ is_held (setting s) m.world block
+  held_still x may block = held_stays (setting s) (suc i) m.world x (setting_fits s r) k.world may (owner_seat s m k i below) block
 
-  abbrev here : Scene
-  here = scene_of m (suc i)
+  leased : (page : PageNo) (kind : Kind) (o : Option Leased) → ((block : ℕ) → is_held (setting s) (lease_made (setting s) (suc i) m.world page kind o).world block ≡ is_held (setting s) m.world block)
+      → IsHostKept s (owner_acted m (suc i) (lease_made (setting s) (suc i) m.world page kind o))
+  leased page kind None still = longer (lease_made (setting s) (suc i) m.world page kind None) refl refl still
+  leased page kind (Some l) still =
+      longer (lease_made (setting s) (suc i) m.world page kind (Some l)) refl (pushed (space.Lease (suc i) (record { 0 = l.frame }) page kind) refl) still
 
-  leased : (page : PageNo) (kind : Kind) (o : Option Leased) → IsHostKept s (with_scene m (suc i) (after_lease (suc i) (free_seat (length m.owners)) here page kind o))
-  leased page kind None = longer _ refl
-  leased page kind (Some l) = longer _ (pushed (space.Lease (suc i) (record { 0 = l.frame }) page kind) refl)
-
-  by_action : (x : Action) → IsHostKept s (with_scene m (suc i) (after_action (setting s) (suc i) (free_seat (length m.owners)) here x))
-  by_action (actions.Step step) = longer _ refl
-  by_action (actions.Move step) = longer _ refl
-  by_action (actions.Space (Lease page kind)) = leased page kind (lease_of s.geometry (online_of s) (space_now s m) (suc i) kind)
-  by_action (actions.Space (Return frame)) = longer _ (pushed (space.Return (suc i) frame) refl)
-  by_action (actions.Space (Online block)) = longer _ refl
-  by_action (actions.Device call) = longer _ refl
-  by_action actions.Ended = longer _ refl
+  by_action : (x : Action) → MayMake (setting s) (suc i) m.world x → IsHostKept s (owner_acted m (suc i) (made (setting s) (suc i) m.world x))
+  by_action (actions.Step step) may = longer (made (setting s) (suc i) m.world (actions.Step step)) refl refl (held_still (actions.Step step) may)
+  by_action (actions.Move step) may = longer (made (setting s) (suc i) m.world (actions.Move step)) refl refl (held_still (actions.Move step) may)
+  by_action (actions.Space (Lease page kind)) may =
+      leased page kind (lease_of s.geometry (online_of s) (space_now (setting s) m.world) (suc i) kind) (held_still (actions.Space (Lease page kind)) may)
+  by_action (actions.Space (Return frame)) may =
+      longer (made (setting s) (suc i) m.world (actions.Space (Return frame))) refl (pushed (space.Return (suc i) frame) refl) (held_still (actions.Space (Return frame)) may)
+  by_action (actions.Space (Online block)) may = absurd (let e = may.driver in omega arith)
+  by_action (actions.Device (device_calls.Request bytes)) may = absurd (let e = may.driver in omega arith)
+  by_action (actions.Device device_calls.Config) may = longer (made (setting s) (suc i) m.world (actions.Device device_calls.Config)) refl refl (held_still (actions.Device device_calls.Config) may)
+  by_action actions.Ended may = longer (made (setting s) (suc i) m.world actions.Ended) refl refl (held_still actions.Ended may)
 
 -- ---- a turn
 
-pub host_kept : (s : Scenario) (m : Machine) (actor : Actor) → IsRunnable s → IsKept s m → IsHostKept s (after_turn (setting s) m actor)
-host_kept s m actor r p = turn_cases (setting s) m (IsHostKept s) p.host
-    (λ i below going. by_action s m p.host i (next_action (owner_of m.owners (suc i))))
-    (λ going. action_kept s m.snapshot m.owners m.journal m.lines m.device m.host.sizes m.host.number m.host.left m.host.result m.host.online.first m.host.online.count going p.host) actor
+pub host_kept : (s : Scenario) (m : Running) (actor : Actor) → IsRunnable s → IsKept s m → IsHostKept s (after_turn (setting s) m actor)
+host_kept s m actor r k = turn_cases (setting s) m (IsHostKept s) k.host
+    (λ i below going. by_action s m r k i below (next_action (owner_of m.owners (suc i))) (may_act s m i r k below going))
+    (λ going. action_kept s r m.world.snapshot m.owners m.world.space m.lines m.world.device m.host.sizes m.host.number m.host.left m.host.result m.host.online.first m.host.online.count going k) actor
 
 -- ---- the start
 
-pub host_kept_at_start : (s : Scenario) → IsRunnable s → IsHostKept s (machine_at_start s)
+pub host_kept_at_start : (s : Scenario) → IsRunnable s → IsHostKept s (running_at_start s)
 host_kept_at_start s r = record {
   sizes = refl;
   under_way = record { asked = ((λ e. absurd (cc)), (λ some. absurd (omega arith))); some = λ some. absurd (omega arith); managed = omega arith };
@@ -274,5 +325,5 @@ host_kept_at_start s r = record {
   lines = refl;
   actions = refl;
   onlines = refl;
-  answered = tt;
+  held = λ block. sym (opened_none s.geometry (online_of s) s.start (budgets_of s.owners) block);
 }

@@ -1,11 +1,10 @@
--- What a machine leaves whose owners have all ended.
+-- What a run leaves whose owners have all ended.
 use Rattle.std.proofs.Common.{◌≡◌, ℕ, ◌<◌, cond, eqb, Bool, true, false, List, [], ◌∷◌, refl, ap, sym, subst, arith, Option, Some, IsSome}
 use Rattle.std.specs.List.{slice_get, count_by}
 use Rattle.std.proofs.lemmas.Bool.{eqb-true}
 use mathlib.Core.Logic.{dite}
 use native.Mathlib.Decide.{dec_le}
 use Rattle.evac_model.specs.declared.entry.Entry.{Entry}
-use Rattle.evac_model.specs.declared.scenario.Actor.{Actor}
 use Rattle.evac_model.specs.declared.scenario.Scenario.{Scenario}
 use Rattle.evac_model.specs.Scenarios.{IsRunnable}
 use Rattle.evac_model.proofs.Bounds.{power_to_512_least}
@@ -22,18 +21,11 @@ use Rattle.core_state.proofs.Cells.{at_entry}
 use Rattle.core_state.proofs.Found.{entry_at-found}
 use Rattle.core_state.proofs.Frames.{maps_to-one}
 use Rattle.core_state.proofs.Lists.{sum_by_member, member_le_sum_by}
-use Rattle.replay.specs.Machine.{Machine, after_turn, after_turns}
 use Rattle.replay.specs.Keeping.{IsKept}
-use Rattle.replay.specs.Runs.{opening, setting, AllEnded}
+use Rattle.replay.specs.Running.{Running}
+use Rattle.replay.specs.Runs.{opening, AllEnded}
 use Rattle.replay.specs.Shown.{MapsInside}
 use Rattle.replay.proofs.EndedOwners.{let_go}
-use Rattle.replay.proofs.MachineKept.{turns_are_kept}
-
--- ---- turns keep the machine
-
-pub all_turns_keep : (s : Scenario) (m : Machine) (turns : List Actor) → IsRunnable s → IsKept s m → IsKept s (after_turns (setting s) m turns)
-all_turns_keep s m [] runnable kept = kept
-all_turns_keep s m (x ∷ xs) runnable kept = all_turns_keep s (after_turn (setting s) m x) xs runnable (turns_are_kept s m x runnable kept)
 
 -- ---- each ticket has its entry
 
@@ -57,23 +49,23 @@ has_entry views t go once =
     let e = has_ticket t r.1.entries (omega arith) in
     some_there (entry_with t views) e.1 (entry_at-found t views r.0 r.1 e.0 e.1 r.2 e.2 e.3 (omega arith))
 
-pub each_ticket : (s : Scenario) (m : Machine) → IsKept s m → AllEnded m.owners → (t : ℕ) → t < next_ticket_of m.snapshot.words → IsSome (entry_with t m.snapshot.views)
-each_ticket s m kept ended t lt = has_entry m.snapshot.views t (let_go s m kept ended) (kept.seats.sound.tickets.each_once t (omega arith) lt)
+pub each_ticket : (s : Scenario) (m : Running) → IsKept s m → AllEnded m.owners → (t : ℕ) → t < next_ticket_of m.world.snapshot.words → IsSome (entry_with t m.world.snapshot.views)
+each_ticket s m kept ended t lt = has_entry m.world.snapshot.views t (let_go s m kept ended) (kept.world.sound.tickets.each_once t (omega arith) lt)
 
 -- ---- pages can be read
 
-pub maps_inside : (s : Scenario) (m : Machine) → IsRunnable s → IsKept s m → MapsInside (opening s) m.snapshot.words
+pub maps_inside : (s : Scenario) (m : Running) → IsRunnable s → IsKept s m → MapsInside (opening s) m.world.snapshot.words
 maps_inside s m runnable kept = record {
-  long = kept.seats.sound.shaped.long;
+  long = kept.world.sound.shaped.long;
   small = record { pages = runnable.limits.pages.1; frames = runnable.limits.frames; cells = runnable.limits.total_cells };
   cells = power_to_512_least s.geometry.cells runnable.limits.cells;
   frames = λ page lt mapped.
-      let w = entry_word_of m.snapshot.words page in
+      let w = entry_word_of m.world.snapshot.words page in
       dite (dec_le (opening s).frames (frame_of w))
       (λ le.
-      let none = kept.seats.sound.frames.no_other (frame_of w) le in
+      let none = kept.world.sound.frames.no_other (frame_of w) le in
       let one = maps_to-one (frame_of w) w mapped refl in
-      let some = member_le_sum_by (λ x. maps_to (frame_of w) x) (all_entry_words (opening s) m.snapshot.words) page w (at_entry (opening s) m.snapshot.words page kept.seats.sound.shaped lt) in
+      let some = member_le_sum_by (λ x. maps_to (frame_of w) x) (all_entry_words (opening s) m.world.snapshot.words) page w (at_entry (opening s) m.world.snapshot.words page kept.world.sound.shaped lt) in
       absurd (omega arith))
       (λ gt. omega arith);
 }

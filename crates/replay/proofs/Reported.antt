@@ -1,4 +1,4 @@
--- What a machine leaves whose owners and host have ended: a legal history, each script call once, the pages after
+-- What a run leaves whose owners and host have ended: a legal history, each script call once, the pages after
 -- it, and their frames; the lines of the host's commands, and what the device and the driver did.
 use Rattle.std.proofs.Common.{◌≡◌, ◌≢◌, ℕ, cond, Bool, true, eq-eqb, ne_eqb, zero, suc, ◌+◌, ◌<◌, ◌≤◌, List, [], ◌++◌, length, map, get_or, sym, refl, ap, ◌∙◌, subst, arith, Option, Some, None}
 use Rattle.std.specs.Option.{option_map}
@@ -38,17 +38,18 @@ use Rattle.core_state.proofs.Histories.{from_opening, histories_are_legal, words
 use Rattle.report.specs.declared.report.Report.{Report}
 use Rattle.report.specs.FinalPages.{final_page, pages_below, pages_state}
 use Rattle.report.proofs.PageLaws.{numbers, pages_state-pages_below, rising-below}
-use Rattle.replay.specs.FramesOut.{space_now}
-use Rattle.replay.specs.Machine.{Machine, device_at}
-use Rattle.replay.specs.Runs.{opening, plain_start, shown_page, shown_below, block_list, HaveEnded, IsReportAfter, space_reported, device_start, device_reported, IsReportOf}
+use Rattle.machine.specs.World.{space_now, device_at}
+use Rattle.machine.proofs.SpaceNow.{offline_not_out}
+use Rattle.replay.specs.Running.{Running}
+use Rattle.replay.specs.Runs.{opening, setting, plain_start, shown_page, shown_below, block_list, HaveEnded, IsReportAfter, space_reported, device_start, device_reported, IsReportOf}
 use Rattle.replay.specs.Keeping.{IsKept}
+use Rattle.replay.proofs.Acting.{setting_fits}
 use Rattle.replay.proofs.Callers.{found_at, of_owner, of_scripts}
 use Rattle.replay.proofs.EndCalls.{paired_at_end}
 use Rattle.replay.proofs.EndHost.{all_lines, all_actions, all_onlines}
 use Rattle.replay.proofs.EndedOwners.{let_go}
 use Rattle.replay.proofs.EndFrames.{frames_at_end, unplugged_at_end}
 use Rattle.replay.proofs.Members.{there, all_at, get_or_at, numbered_at}
-use Rattle.replay.proofs.SpaceNow.{space_is}
 
 -- ---- pages as the words show them
 
@@ -75,15 +76,15 @@ shown-below o words st (suc n) is =
 
 -- ---- the report
 
-module _ (s : Scenario) (m : Machine) (r : Report) (run : IsRunnable s) (k : IsKept s m) (ended : HaveEnded m) (rep : IsReportAfter s m r) where
+module _ (s : Scenario) (m : Running) (r : Report) (run : IsRunnable s) (k : IsKept s m) (ended : HaveEnded m) (rep : IsReportAfter s m r) where
   abbrev o : Opening
   o = opening s
 
   abbrev words : List ℕ
-  words = m.snapshot.words
+  words = m.world.snapshot.words
 
   abbrev views : List View
-  views = m.snapshot.views
+  views = m.world.snapshot.views
 
   opens : IsOpeningState o (plain_start s)
   opens page = ap (λ st. page_at st page) (sym (start_pages_plain s.geometry s.start run.start.each)) ∙ get-table_map (start_pages s.geometry s.start) page
@@ -103,7 +104,7 @@ module _ (s : Scenario) (m : Machine) (r : Report) (run : IsRunnable s) (k : IsK
   st = after_entries s.geometry.cells (plain_start s) r.history
 
   page_is : (page : ℕ) → page_at st page ≡ page_after o views page (0 + length r.history)
-  page_is page = (from_opening o words views (plain_start s) r.history k.seats.sound opens rep.history).1 page
+  page_is page = (from_opening o words views (plain_start s) r.history k.world.sound opens rep.history).1 page
 
   beyond : (page : ℕ) → s.geometry.pages ≤ page → page_at st page ≡ None
   beyond page high =
@@ -122,7 +123,7 @@ module _ (s : Scenario) (m : Machine) (r : Report) (run : IsRunnable s) (k : IsK
       (λ low. omega arith)
 
   shows : (page : ℕ) → page < s.geometry.pages → FreeShows o words (entry_word_of words page) (page_at st page)
-  shows page lt = words_show_the_history o words views (plain_start s) r.history k.seats.sound opens rep.history (let_go s m k ended.owners) page lt
+  shows page lt = words_show_the_history o words views (plain_start s) r.history k.world.sound opens rep.history (let_go s m k ended.owners) page lt
 
   pages : r.pages ≡ pages_below st s.geometry.pages
   pages = rep.pages ∙ shown-below o words st s.geometry.pages (λ page lt. shown-free o words page (page_at st page) (shows page lt))
@@ -137,7 +138,7 @@ module _ (s : Scenario) (m : Machine) (r : Report) (run : IsRunnable s) (k : IsK
   offline : AreUnplugged s.geometry (space_reported s r) r.plugged
   offline =
       subst (λ (journal : List SpaceAction). AreUnplugged s.geometry (space_after s.geometry (online_of s) (space_at_start s.geometry s.start) journal) r.plugged) (sym rep.space)
-      (subst (λ (plugged : List BlockNo). AreUnplugged s.geometry (space_now s m) plugged) (sym rep.plugged) (unplugged_at_end s m k ended))
+      (subst (λ (plugged : List BlockNo). AreUnplugged s.geometry (space_now (setting s) m.world) plugged) (sym rep.plugged) (unplugged_at_end s m k ended))
 
   -- ---- the host and the device
 
@@ -148,7 +149,7 @@ module _ (s : Scenario) (m : Machine) (r : Report) (run : IsRunnable s) (k : IsK
   device = rep.device ∙ all_actions s m k.host ended.host
 
   answered : AreAnswered s.geometry (device_start s) r.device_journal
-  answered = subst (λ (journal : List DeviceAction). AreAnswered s.geometry (device_start s) journal) (sym rep.device) k.host.answered
+  answered = subst (λ (journal : List DeviceAction). AreAnswered s.geometry (device_start s) journal) (sym rep.device) k.world.answered
 
   driver : actions_of 0 r.space_journal ≡ host_onlines s.geometry (device_start s) s.host
   driver = ap (λ (journal : List SpaceAction). actions_of 0 journal) rep.space ∙ all_onlines s m k.host ended.host
@@ -164,11 +165,11 @@ module _ (s : Scenario) (m : Machine) (r : Report) (run : IsRunnable s) (k : IsK
   no_unplugged : IsEmptied (space_reported s r)
   no_unplugged =
       subst (λ (journal : List SpaceAction). IsEmptied (space_after s.geometry (online_of s) (space_at_start s.geometry s.start) journal)) (sym rep.space)
-      (space_is s m run k.frames).emptied
+      (offline_not_out (setting s) m.world (setting_fits s run) k.world)
 
   pub reports_tell_legal_histories : IsReportOf s r
   reports_tell_legal_histories = record {
-    legal = histories_are_legal o words views (plain_start s) r.history k.seats.sound opens rep.history;
+    legal = histories_are_legal o words views (plain_start s) r.history k.world.sound opens rep.history;
     scripts = of_scripts s m k ended.owners r.history rep.history;
     pages = ap pages_state pages ∙ pages_state-pages_below st s.geometry.pages beyond;
     rising = subst (λ ps. IsStrictlyIncreasing (numbers ps)) (sym pages) (rising-below st s.geometry.pages).0;

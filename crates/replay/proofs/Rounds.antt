@@ -16,11 +16,11 @@ use Rattle.evac_words.specs.Word.{taken_bit}
 use Rattle.core_state.specs.declared.held.Held.{Held}
 use Rattle.core_state.specs.declared.step.Step.TheVariants.{Take, Draw, Load, Store, Mark, Release}
 use Rattle.core_state.specs.Words.{entry_word_of}
-use Rattle.core_state.specs.Views.{view_of, holds_page, holders}
+use Rattle.core_state.specs.Views.{holds_page, holders}
 use Rattle.core_state.specs.Histories.{AllLetGo}
 use Rattle.core_state.proofs.Lists.{within, set_else, member_le_sum_by, sum_by_member, sum_by_none}
-use Rattle.core_actors.specs.declared.action.Action.{Action}
-use Rattle.core_actors.specs.declared.action.Action.TheVariants as actions
+use Rattle.machine.specs.declared.action.Action.{Action}
+use Rattle.machine.specs.declared.action.Action.TheVariants as actions
 use Rattle.core_actors.specs.declared.place.Place.{Place}
 use Rattle.core_actors.specs.declared.place.Place.TheVariants.{Between, InCall}
 use Rattle.core_actors.specs.declared.place.CallPlace.{CallPlace}
@@ -33,12 +33,13 @@ use Rattle.core_actors.specs.Places.{action_at}
 use Rattle.core_actors.specs.Fits.{PageHeld, has_in, seat_has, Holds}
 use Rattle.core_actors.proofs.Allowed.{next_step_allowed}
 use Rattle.core_actors.proofs.Left.{none_left}
-use Rattle.replay.specs.Machine.{Machine, after_turn, after_turns}
+use Rattle.replay.specs.Running.{Running, after_turn, after_turns}
 use Rattle.replay.specs.Schedule.{actors, rounds}
 use Rattle.replay.specs.Runs.{opening, setting}
 use Rattle.replay.specs.Keeping.{IsKept}
+use Rattle.replay.proofs.Acting.{owner_view, owner_has, owner_fits}
+use Rattle.replay.proofs.ActionsLeft.{owner_actions_left, all_actions_left, host_none_left, action_lowers, host_lowers, turn_never_raises, TurnsKeep, turns_keep, turns_never_raise}
 use Rattle.replay.proofs.Turns.{after_turns-append, found_by, found_at, heard_at, TurnOf, rests, acts, host_acts, turn_of, owners_after, host_stays}
-use Rattle.replay.proofs.ActionsLeft.{owner_actions_left, all_actions_left, host_none_left, view_at, fits_at, action_lowers, host_lowers, turn_never_raises, TurnsKeep, turns_keep, turns_never_raise}
 
 -- ---- an owner that holds a page
 
@@ -79,7 +80,7 @@ held_none size left (Some page) held none h = absurd (omega arith)
 zero_not_one : (n : ℕ) → n ≡ 0 → ¬ (n ≡ 1)
 zero_not_one n z e = omega arith
 
-module _ (s : Scenario) (m : Machine) (kept : IsKept s m) where
+module _ (s : Scenario) (m : Running) (kept : IsKept s m) where
   -- an owner that holds a page goes on with its call
   holder_goes_on : (i : ℕ) (a : OwnerState) → slice_get m.owners i ≡ Some a → 0 < made_holding a → (owner_ended a ≡ false) × (¬ FindsTaken (next_action a) (found_at (setting s) m i a))
   holder_goes_on i a at some =
@@ -90,7 +91,7 @@ module _ (s : Scenario) (m : Machine) (kept : IsKept s m) where
 
   module _ (none : (i : ℕ) (a : OwnerState) → slice_get m.owners i ≡ Some a → made_holding a ≡ 0) where
     -- where no owner has taken the page of its call, nobody holds a page
-    all_let_go : AllLetGo m.snapshot.views
+    all_let_go : AllLetGo m.world.snapshot.views
     all_let_go zero v at = (kept.seats.others zero v at (inl refl)).rests.holds_none
     all_let_go (suc i) v at = dite (dec_lt i (length m.owners))
         (λ lt.
@@ -100,17 +101,16 @@ module _ (s : Scenario) (m : Machine) (kept : IsKept s m) where
         held_none (opening s).cells a.left (seat_has a).page v.held (none i a here) fits.has.held)
         (λ past. (kept.seats.others (suc i) v at (inr (omega (arith, kept.seats.owners)))).rests.holds_none)
 
-    nobody_holds : (page : ℕ) → holders page m.snapshot.views ≡ 0
-    nobody_holds page = sum_by_none (λ v. holds_page page v.held) m.snapshot.views (λ i v at. ap (holds_page page) (all_let_go i v at))
+    nobody_holds : (page : ℕ) → holders page m.world.snapshot.views ≡ 0
+    nobody_holds page = sum_by_none (λ v. holds_page page v.held) m.world.snapshot.views (λ i v at. ap (holds_page page) (all_let_go i v at))
 
-    free_word : (page : ℕ) → page < (opening s).pages → taken_bit (entry_word_of m.snapshot.words page) ≡ 0
-    free_word page lt = sym (kept.seats.sound.turn.taken_by_one page lt) ∙ nobody_holds page
+    free_word : (page : ℕ) → page < (opening s).pages → taken_bit (entry_word_of m.world.snapshot.words page) ≡ 0
+    free_word page lt = sym (kept.world.sound.turn.taken_by_one page lt) ∙ nobody_holds page
 
-    finds_free : (i : ℕ) (a : OwnerState) (x : Action) → slice_get m.owners i ≡ Some a → owner_ended a ≡ false → next_action a ≡ x → ¬ FindsTaken x (found_by (setting s) m (suc i) x)
+    finds_free : (i : ℕ) (a : OwnerState) (x : Action) → slice_get m.owners i ≡ Some a → owner_ended a ≡ false → next_action a ≡ x → ¬ FindsTaken x (found_by (setting s) (suc i) m.world x)
     finds_free i a (actions.Step (Take page)) at going is =
-        let v = view_of m.snapshot.views (suc i) in
-        let may = next_step_allowed s.geometry (opening s) m.snapshot.words m.snapshot.views (suc i) v (script_of s.owners (suc i)) a (Take page) (view_at s m kept i a at) kept.seats.sound.pages (fits_at s m kept i a at) going is tt in
-        zero_not_one (taken_bit (entry_word_of m.snapshot.words page.0)) (free_word page.0 may.in_range)
+        let may = next_step_allowed s.geometry (opening s) m.world.snapshot.words m.world.snapshot.views (suc i) (owner_view m i) (script_of s.owners (suc i)) a (Take page) (owner_has s m kept i a at) kept.world.sound.pages (owner_fits s m kept i a at).1 going is tt in
+        zero_not_one (taken_bit (entry_word_of m.world.snapshot.words page.0)) (free_word page.0 may.in_range)
     finds_free i a (actions.Step Draw) at going is = λ h. h
     finds_free i a (actions.Step (Load cell)) at going is = λ h. h
     finds_free i a (actions.Step (Store frame cell value)) at going is = λ h. h
@@ -126,14 +126,14 @@ module _ (s : Scenario) (m : Machine) (kept : IsKept s m) where
 
   going_on : (i : ℕ) (a : OwnerState) → slice_get m.owners i ≡ Some a → 0 < actions_left a → owner_ended a ≡ false
   going_on i a at some =
-      let fits = fits_at s m kept i a at in
+      let fits = (owner_fits s m kept i a at).1 in
       false_from_ne_true (owner_ended a) (λ ended. let none = (none_left a fits.under_way).1 ended in omega arith)
 
 -- ---- the turns of a round
 
 module _ (s : Scenario) (keep : TurnsKeep s) where
   -- a turn of an actor that lowers the actions left, and turns after it
-  turn_then : (m : Machine) (x actor : Actor) (xs : List Actor) → IsKept s m → x ≡ actor → all_actions_left (after_turn (setting s) m actor) < all_actions_left m
+  turn_then : (m : Running) (x actor : Actor) (xs : List Actor) → IsKept s m → x ≡ actor → all_actions_left (after_turn (setting s) m actor) < all_actions_left m
       → all_actions_left (after_turns (setting s) m (x ∷ xs)) < all_actions_left m
   turn_then m x actor xs kept is lower =
       let same = ap (λ (y : Actor). all_actions_left (after_turn (setting s) m y)) is in
@@ -141,7 +141,7 @@ module _ (s : Scenario) (keep : TurnsKeep s) where
       omega arith
 
   -- turns, among them one of an owner that holds a page
-  holder_round : (m : Machine) (xs : List Actor) (i j : ℕ) (a : OwnerState) → IsKept s m → slice_get m.owners i ≡ Some a → 0 < made_holding a → slice_get xs j ≡ Some (Owner (suc i))
+  holder_round : (m : Running) (xs : List Actor) (i j : ℕ) (a : OwnerState) → IsKept s m → slice_get m.owners i ≡ Some a → 0 < made_holding a → slice_get xs j ≡ Some (Owner (suc i))
       → all_actions_left (after_turns (setting s) m xs) < all_actions_left m
   holder_round m [] i j a kept at some there = absurd (none-some (Owner (suc i)) there)
   holder_round m (x ∷ xs) i zero a kept at some there = turn_then m x (Owner (suc i)) xs kept (same_Some x (Owner (suc i)) there) (holder_lowers s m kept i a at some)
@@ -150,7 +150,7 @@ module _ (s : Scenario) (keep : TurnsKeep s) where
         by_kind : TurnOf (setting s) m x → (slice_get (after_turn (setting s) m x).owners i ≡ Some a → all_actions_left (after_turns (setting s) m (x ∷ xs)) < all_actions_left (after_turn (setting s) m x))
             → all_actions_left (after_turns (setting s) m (x ∷ xs)) < all_actions_left m
         by_kind (rests e) later =
-            let lower = later (ap (λ (w : Machine). slice_get w.owners i) e ∙ at) in
+            let lower = later (ap (λ (w : Running). slice_get w.owners i) e ∙ at) in
             let same = ap all_actions_left e in
             omega arith
         by_kind (acts k b is here going) later = dite (ℕ_discrete k i)
@@ -167,18 +167,18 @@ module _ (s : Scenario) (keep : TurnsKeep s) where
         by_kind (host_acts is going) later = turn_then m x Host xs kept is (host_lowers s m kept going)
 
   -- turns, among them one of an owner that hasn't ended, where nobody holds a page
-  free_round : (m : Machine) (xs : List Actor) (i j : ℕ) (a : OwnerState) → IsKept s m → ((k : ℕ) (b : OwnerState) → slice_get m.owners k ≡ Some b → made_holding b ≡ 0)
+  free_round : (m : Running) (xs : List Actor) (i j : ℕ) (a : OwnerState) → IsKept s m → ((k : ℕ) (b : OwnerState) → slice_get m.owners k ≡ Some b → made_holding b ≡ 0)
       → slice_get m.owners i ≡ Some a → owner_ended a ≡ false → slice_get xs j ≡ Some (Owner (suc i)) → all_actions_left (after_turns (setting s) m xs) < all_actions_left m
   free_round m [] i j a kept none at going there = absurd (none-some (Owner (suc i)) there)
   free_round m (x ∷ xs) i zero a kept none at going there = turn_then m x (Owner (suc i)) xs kept (same_Some x (Owner (suc i)) there) (free_lowers s m kept none i a at going)
   free_round m (x ∷ xs) i (suc j) a kept none at going there = by_kind (turn_of (setting s) m x) (free_round m xs i j a kept none at going there) where
     by_kind : TurnOf (setting s) m x → all_actions_left (after_turns (setting s) m xs) < all_actions_left m → all_actions_left (after_turns (setting s) m (x ∷ xs)) < all_actions_left m
-    by_kind (rests e) later = subst (λ (w : Machine). all_actions_left (after_turns (setting s) w xs) < all_actions_left m) (sym e) later
+    by_kind (rests e) later = subst (λ (w : Running). all_actions_left (after_turns (setting s) w xs) < all_actions_left m) (sym e) later
     by_kind (acts k b is here goes) later = turn_then m x (Owner (suc k)) xs kept is (free_lowers s m kept none k b here goes)
     by_kind (host_acts is goes) later = turn_then m x Host xs kept is (host_lowers s m kept goes)
 
   -- turns, among them one of the host, which hasn't ended
-  host_round : (m : Machine) (xs : List Actor) (j : ℕ) → IsKept s m → host_ended m.host ≡ false → slice_get xs j ≡ Some Host → all_actions_left (after_turns (setting s) m xs) < all_actions_left m
+  host_round : (m : Running) (xs : List Actor) (j : ℕ) → IsKept s m → host_ended m.host ≡ false → slice_get xs j ≡ Some Host → all_actions_left (after_turns (setting s) m xs) < all_actions_left m
   host_round m [] j kept going there = absurd (none-some Host there)
   host_round m (x ∷ xs) zero kept going there = turn_then m x Host xs kept (same_Some x Host there) (host_lowers s m kept going)
   host_round m (x ∷ xs) (suc j) kept going there =
@@ -186,7 +186,7 @@ module _ (s : Scenario) (keep : TurnsKeep s) where
         by_kind : TurnOf (setting s) m x → ((after_turn (setting s) m x).host ≡ m.host → all_actions_left (after_turns (setting s) m (x ∷ xs)) < all_actions_left (after_turn (setting s) m x))
             → all_actions_left (after_turns (setting s) m (x ∷ xs)) < all_actions_left m
         by_kind (rests e) later =
-            let lower = later (ap (λ (w : Machine). w.host) e) in
+            let lower = later (ap (λ (w : Running). w.host) e) in
             let same = ap all_actions_left e in
             omega arith
         by_kind (acts k b is here goes) later =
@@ -214,13 +214,13 @@ module _ (s : Scenario) (keep : TurnsKeep s) where
   abbrev all_actors : List Actor
   all_actors = actors (length s.owners)
 
-  there_at : (m : Machine) (i : ℕ) (a : OwnerState) → IsKept s m → slice_get m.owners i ≡ Some a → slice_get all_actors i ≡ Some (Owner (suc i))
+  there_at : (m : Running) (i : ℕ) (a : OwnerState) → IsKept s m → slice_get m.owners i ≡ Some a → slice_get all_actors i ≡ Some (Owner (suc i))
   there_at m i a kept at = actors_at (length s.owners) i (omega (arith, within m.owners i a at, kept.seats.owners))
 
   host_there : slice_get all_actors (length s.owners) ≡ Some Host
   host_there = host_behind 1 (length s.owners)
 
-  owners_round : (m : Machine) → IsKept s m → 0 < owner_actions_left m.owners → all_actions_left (after_turns (setting s) m all_actors) < all_actions_left m
+  owners_round : (m : Running) → IsKept s m → 0 < owner_actions_left m.owners → all_actions_left (after_turns (setting s) m all_actors) < all_actions_left m
   owners_round m kept some = dite (ℕ_discrete (sum_by (λ a. made_holding a) m.owners) 0)
       (λ none.
       let p = sum_by_member actions_left m.owners some in
@@ -230,17 +230,17 @@ module _ (s : Scenario) (keep : TurnsKeep s) where
       let p = sum_by_member (λ (x : OwnerState). made_holding x) m.owners (omega arith) in
       holder_round s keep m all_actors p.0 p.0 p.1 kept p.2 p.3 (there_at m p.0 p.1 kept p.2))
 
-  round_lowers : (m : Machine) → IsKept s m → 0 < all_actions_left m → all_actions_left (after_turns (setting s) m all_actors) < all_actions_left m
+  round_lowers : (m : Running) → IsKept s m → 0 < all_actions_left m → all_actions_left (after_turns (setting s) m all_actors) < all_actions_left m
   round_lowers m kept some = by_host (host_ended m.host) refl where
     by_host : (b : Bool) → host_ended m.host ≡ b → all_actions_left (after_turns (setting s) m all_actors) < all_actions_left m
     by_host true ended = owners_round m kept (let none = (host_none_left m.host kept.host.under_way).1 ended in omega arith)
     by_host false going = host_round s keep m all_actors (length s.owners) kept going host_there
 
   -- no action is left after as many rounds as there were actions left
-  pub rounds_end : (n : ℕ) (m : Machine) → IsKept s m → all_actions_left m ≤ n → all_actions_left (after_turns (setting s) m (rounds all_actors n)) ≡ 0
+  pub rounds_end : (n : ℕ) (m : Running) → IsKept s m → all_actions_left m ≤ n → all_actions_left (after_turns (setting s) m (rounds all_actors n)) ≡ 0
   rounds_end zero m kept few = omega arith
   rounds_end (suc n) m kept few =
-      let next : Machine = after_turns (setting s) m all_actors in
+      let next : Running = after_turns (setting s) m all_actors in
       let fewer : all_actions_left next ≤ n = dite (ℕ_discrete (all_actions_left m) 0)
       (λ none. omega (arith, turns_never_raise s keep m all_actors kept))
       (λ more. omega (arith, round_lowers m kept (omega arith))) in

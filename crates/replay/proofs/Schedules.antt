@@ -9,7 +9,8 @@ use Rattle.evac_model.specs.declared.scenario.Actor.{Actor}
 use Rattle.evac_model.specs.declared.scenario.Actor.TheVariants.{Owner, Host, Scanner}
 use Rattle.evac_model.specs.declared.scenario.Turn.{Turn}
 use Rattle.core_actors.specs.Owners.{OwnerState, owner_at_start, owner_ended}
-use Rattle.replay.specs.Machine.{Setting, Machine, Run, owner_of, after_turn, run_after}
+use Rattle.machine.specs.World.{Setting}
+use Rattle.replay.specs.Running.{Running, Run, owner_of, after_turn, run_after}
 use Rattle.replay.specs.Schedule.{actors, named_turns, actor_for, turns_from, rounds}
 use Rattle.replay.specs.Runs.{AllEnded, HaveEnded}
 use Rattle.replay.proofs.Turns.{rests_at, host_rests}
@@ -85,12 +86,12 @@ pub owner_has_ended : (owners : List OwnerState) (k : ℕ) → AllEnded owners �
 owner_has_ended owners zero all = refl
 owner_has_ended owners (suc i) all = at_or (λ (a : OwnerState). owner_ended a ≡ true) owners i (owner_at_start 0 0 []) refl (all i)
 
-ended_turn : (c : Setting) (m : Machine) (x : Actor) → HaveEnded m → after_turn c m x ≡ m
+ended_turn : (c : Setting) (m : Running) (x : Actor) → HaveEnded m → after_turn c m x ≡ m
 ended_turn c m (Owner k) all = rests_at c m k (owner_has_ended m.owners k all.owners)
 ended_turn c m Host all = host_rests c m all.host
 ended_turn c m Scanner all = refl
 
-pub ended_turns : (r : Run) (xs : List Actor) → HaveEnded r.machine → run_after r xs ≡ r
+pub ended_turns : (r : Run) (xs : List Actor) → HaveEnded r.running → run_after r xs ≡ r
 ended_turns r [] all = refl
 ended_turns r (x ∷ xs) all =
-    ap (λ (m : Machine). run_after (record r { machine = m }) xs) (ended_turn r.setting r.machine x all) ∙ ended_turns r xs all
+    ap (λ (m : Running). run_after (record r { running = m }) xs) (ended_turn r.setting r.running x all) ∙ ended_turns r xs all

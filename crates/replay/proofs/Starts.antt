@@ -1,36 +1,43 @@
--- The seats at the start: how the owners fit theirs, and that the others are idle.
-use Rattle.std.proofs.Common.{◌≡◌, ℕ, zero, suc, ◌+◌, List, [], ◌∷◌, ◌++◌, length, length-append, get_or, sum, refl, sym, ap, ◌∙◌, subst, arith, Option, Some, None}
+-- The start of a run: what the machine is opened with, how the owners fit their seats, that the others are idle, and
+-- that owners and the driver have no frame in hand.
+use Rattle.std.proofs.Common.{◌≡◌, ℕ, zero, suc, ◌+◌, List, [], ◌∷◌, ◌++◌, length, get_or, sum, refl, sym, ap, ◌∙◌, subst, arith, Option, Some, None, IsSome}
 use Rattle.std.specs.List.{AllByRecursion, slice_get}
-use Rattle.std.proofs.lemmas.List.{length-replicate}
+use Rattle.std.proofs.lemmas.Bool.{false≢true}
+use Rattle.std.proofs.lemmas.List.{length-map, length-replicate}
 use Rattle.std.proofs.lemmas.List.Sums.{sum_by-cons}
-use Rattle.std.proofs.lemmas.Option.{same_Some, none-some}
+use Rattle.std.proofs.lemmas.Option.{same_Some, none-some, slice_get-get_or}
 use Rattle.evac_model.specs.declared.names.PageNo.{PageNo}
 use Rattle.evac_model.specs.declared.call.Call.{Call}
 use Rattle.evac_model.specs.declared.scenario.Scenario.{Scenario}
 use Rattle.evac_model.specs.declared.scenario.StartPage.{StartPage}
 use Rattle.evac_model.specs.Geometry.{Sizes, frame_count}
-use Rattle.evac_model.specs.ScenarioGrammar.{call_count}
+use Rattle.evac_model.specs.ScenarioGrammar.{online_of, call_count}
 use Rattle.evac_model.specs.ScenarioLines.{HasNumbers}
 use Rattle.evac_model.specs.Scenarios.{IsOwnerCall, IsRunnable}
-use Rattle.evac_model.proofs.Lists.{all_weaker, get_or-replicate_same}
+use Rattle.evac_model.proofs.Lists.{all_weaker}
 use Rattle.core_state.specs.declared.hand.HandFrame.{HandFrame}
 use Rattle.core_state.specs.declared.opening.Opening.{Opening}
 use Rattle.core_state.specs.declared.view.View.{View}
-use Rattle.core_state.specs.CoreOpens.{opening_of, opening_words, empty_places, owner_view, owner_views, scanner_view, keeper_views, opening_views}
+use Rattle.core_state.specs.CoreOpens.{opening_of, opening_words, owner_view, owner_views, scanner_view, keeper_views, opening_views}
 use Rattle.core_state.specs.Opens.{IsNew, Opens}
-use Rattle.core_state.specs.Views.{Has, IsSeated}
+use Rattle.core_state.specs.Views.{Has, IsSeated, view_of, spent, hand_frame}
 use Rattle.core_state.proofs.CoreOpened.{core_opens}
-use Rattle.core_state.proofs.Opened.{openings_are_sound}
+use Rattle.core_state.proofs.Lists.{within}
+use Rattle.machine.specs.Consistent.{IsConsistent}
+use Rattle.machine.specs.Start.{MayStart, setting_at_start}
+use Rattle.machine.specs.World.{Setting}
+use Rattle.machine.proofs.Opened.{none_there, opened_consistent}
 use Rattle.core_actors.specs.CallSteps.{IsCallOf}
 use Rattle.core_actors.specs.Fits.{Fits}
 use Rattle.core_actors.specs.Owners.{OwnerState, owner_at_start}
+use Rattle.replay.specs.FramesInHand.{AreFramesInHand}
 use Rattle.replay.specs.Keeping.{HaveNumbers, IsIdle, AreSeatsKept}
-use Rattle.replay.specs.Runs.{budgets_of, owners_from, opening, machine_at_start}
+use Rattle.replay.specs.Runs.{budgets_of, owners_from, opening, setting, running_at_start}
 use Rattle.replay.proofs.InOrder.{none_in_order}
 
--- ---- budgets, and how many owners and seats there are
+-- ---- budgets, and how many owners there are
 
-pub sum_budgets : (scripts : List (List (PageNo × Call))) → sum (budgets_of scripts) ≡ call_count scripts
+sum_budgets : (scripts : List (List (PageNo × Call))) → sum (budgets_of scripts) ≡ call_count scripts
 sum_budgets [] = refl
 sum_budgets (c ∷ cs) =
     let a = sum_by-cons (λ (x : ℕ). x) (length c) (budgets_of cs) in
@@ -41,22 +48,31 @@ pub length-owners_from : (cells k : ℕ) (scripts : List (List (PageNo × Call))
 length-owners_from cells k [] = refl
 length-owners_from cells k (c ∷ cs) = ap suc (length-owners_from cells (k + 1) cs)
 
--- an empty hand has no frame
-pub none_there : (n frame : ℕ) → get_or (empty_places n) frame None ≡ None
-none_there n frame = get_or-replicate_same n frame None
+-- ---- what the machine is opened with
+
+-- the setting of the machine is that of the run
+pub setting_is : (s : Scenario) → setting_at_start s.geometry (online_of s) s.start (budgets_of s.owners) ≡ setting s
+setting_is s =
+    ap (λ (n : ℕ). let c : Setting = record { opening = opening s; sizes = s.geometry; online = online_of s; space = (setting s).space; owners = n } in c)
+    (length-map s.owners (λ (script : List (PageNo × Call)). length script))
+
+pub may_start : (s : Scenario) → IsRunnable s → MayStart s.geometry (online_of s) s.start (budgets_of s.owners)
+may_start s r = record {
+  limits = r.limits;
+  start = r.start;
+  kinds = r.kinds;
+  owners = let n = length-map s.owners (λ (script : List (PageNo × Call)). length script) in let few = r.owners in omega arith;
+  calls = let a = sum_budgets s.owners in let b = r.count in omega arith;
+}
+
+pub world_at_start_kept : (s : Scenario) → IsRunnable s → IsConsistent (setting s) (running_at_start s).world
+world_at_start_kept s r =
+    subst (λ (c : Setting). IsConsistent c (running_at_start s).world) (setting_is s)
+    (opened_consistent s.geometry (online_of s) s.start (budgets_of s.owners) (may_start s r))
+
+-- ---- an owner and its seat
 
 module _ (s : Sizes) where
-  pub length-owner_views : (k : ℕ) (scripts : List (List (PageNo × Call))) → length (owner_views s k (budgets_of scripts)) ≡ length scripts
-  length-owner_views k [] = refl
-  length-owner_views k (c ∷ cs) = ap suc (length-owner_views (k + 1) cs)
-
-  pub length-opening_views : (start : List StartPage) (scripts : List (List (PageNo × Call))) → length (opening_views s start (budgets_of scripts)) ≡ length scripts + 4
-  length-opening_views start scripts =
-      let a = length-append (owner_views s 1 (budgets_of scripts)) (scanner_view s ∷ keeper_views s start) in
-      let b = length-owner_views 1 scripts in omega arith
-
-  -- ---- an owner and its seat
-
   record IsOwnerAt (scripts : List (List (PageNo × Call))) (number i : ℕ) (a : OwnerState) (v : View) : Type 0 where
     pub script : List (PageNo × Call)
     pub here : script ≡ get_or scripts i []
@@ -75,6 +91,13 @@ module _ (s : Sizes) where
   owner_at k (c ∷ cs) rest (suc i) number a v is at has =
       let p = owner_at (k + 1) cs rest i number a v (omega arith) at has in
       record { script = p.script; here = p.here; owner = p.owner; view = p.view }
+
+  -- it has no frame in hand
+  empty_at : (scripts : List (List (PageNo × Call))) (rest : List View) (i : ℕ) (a : OwnerState) (v : View) (frame : ℕ)
+      → slice_get (owners_from s.cells 1 scripts) i ≡ Some a → slice_get (owner_views s 1 (budgets_of scripts) ++ rest) i ≡ Some v → hand_frame v frame ≡ None
+  empty_at scripts rest i a v frame at has =
+      let p = owner_at 1 scripts rest i (suc i) a v (omega arith) at has in
+      ap (λ (w : View). hand_frame w frame) (sym p.view) ∙ none_there (frame_count s) frame
 
   -- ---- it is at the start of its script
 
@@ -137,18 +160,32 @@ module _ (s : Scenario) (r : IsRunnable s) where
   abbrev start_views : List View
   start_views = opening_views s.geometry s.start (budgets_of s.owners)
 
+  abbrev last : List View
+  last = scanner_view s.geometry ∷ keeper_views s.geometry s.start
+
   opens : Opens (opening s) (opening_words s.geometry s.start) start_views
-  opens = core_opens s.geometry r.limits s.start (budgets_of s.owners) r.start (let a = sum_budgets s.owners in let b = r.count in omega arith)
+  opens = core_opens s.geometry r.limits s.start (budgets_of s.owners) r.start (may_start s r).calls
 
   pub new_at_start : (i : ℕ) (v : View) → Has start_views i v → IsNew (opening s) v
   new_at_start i v has = opens.new i v has
 
-  pub seats_at_start : AreSeatsKept s (machine_at_start s)
+  pub seats_at_start : AreSeatsKept s (running_at_start s)
   seats_at_start = record {
-    sound = openings_are_sound (opening s) (opening_words s.geometry s.start) start_views opens;
     owners = length-owners_from s.geometry.cells 1 s.owners;
-    seats = length-opening_views s.geometry s.start s.owners;
-    fits = λ i a v at has. starts_fit s.geometry s.start (budgets_of s.owners) s.owners (scanner_view s.geometry ∷ keeper_views s.geometry s.start) i a v r.calls at has;
+    fits = λ i a v at has. starts_fit s.geometry s.start (budgets_of s.owners) s.owners last i a v r.calls at has;
     in_order = λ i v has. let n = opens.new i v has in none_in_order v n.entries n.held;
     others = λ i v has other. new_is_idle (opening s) v (opens.new i v has);
+  }
+
+  owner_empty : (i : ℕ) (a : OwnerState) (frame : ℕ) → slice_get (running_at_start s).owners i ≡ Some a → hand_frame (view_of start_views (suc i)) frame ≡ None
+  owner_empty i a frame at =
+      let low = within (running_at_start s).owners i a at in
+      let n = length-owners_from s.geometry.cells 1 s.owners in
+      let seats = (world_at_start_kept s r).seats in
+      empty_at s.geometry s.owners last i a (view_of start_views (suc i)) frame at (slice_get-get_or start_views (suc i) spent (omega arith))
+
+  pub frames_at_start : AreFramesInHand s (running_at_start s)
+  frames_at_start = record {
+    owners = λ i a frame at has. absurd (false≢true (subst (λ (x : Option HandFrame). IsSome x) (owner_empty i a frame at) has));
+    driver = λ frame has. absurd (false≢true (subst (λ (x : Option HandFrame). IsSome x) (none_there (frame_count s.geometry) frame) has));
   }

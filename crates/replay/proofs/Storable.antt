@@ -1,12 +1,10 @@
 -- An owner whose calls have numbers of 64 bits stores no other ones.
-use Rattle.std.proofs.Common.{◌≡◌, ℕ, zero, suc, ◌+◌, ◌%◌, ◌^◌, ◌<◌, List, [], ◌∷◌, get_or, subst, arith, None, Some}
+use Rattle.std.proofs.Common.{ℕ, zero, suc, ◌+◌, ◌%◌, ◌^◌, ◌<◌, List, [], ◌∷◌, get_or, arith, None, Some}
 use Rattle.std.specs.List.{AllByRecursion}
 use Rattle.evac_model.specs.declared.names.PageNo.{PageNo}
 use Rattle.evac_model.specs.declared.call.Call.{Call}
 use Rattle.evac_model.specs.declared.call.Call.TheVariants.{Alloc, Free, Read, Write, Add, Pin, Unpin}
 use Rattle.evac_model.specs.ScenarioLines.{IsNumber, HasNumbers}
-use Rattle.core_state.specs.declared.step.Step.{Step}
-use Rattle.core_actors.specs.declared.action.Action.TheVariants as actions
 use Rattle.core_actors.specs.declared.place.Place.{Place}
 use Rattle.core_actors.specs.declared.place.Place.TheVariants.{Between, InCall}
 use Rattle.core_actors.specs.declared.place.CallPlace.{CallPlace}
@@ -14,7 +12,7 @@ use Rattle.core_actors.specs.declared.place.CallPlace.TheVariants.{Zero, MarkZer
 use Rattle.core_actors.specs.CallSteps.{values_of}
 use Rattle.core_actors.specs.Places.{first_action, action_at}
 use Rattle.core_actors.specs.Owners.{OwnerState, action_in, next_action}
-use Rattle.core_actors.specs.Actions.{IsStorable, IsStorableAction}
+use Rattle.core_actors.specs.Actions.{IsStorableAction}
 use Rattle.replay.specs.Keeping.{HaveNumbers}
 
 number_at : (xs : List ℕ) (i : ℕ) → AllByRecursion IsNumber xs → get_or xs i 0 < 2 ^ 64
@@ -63,6 +61,6 @@ storable_in (Between None) (c ∷ cs) h = first_storable c
 storable_in (InCall at) [] h = tt
 storable_in (InCall at) (c ∷ cs) h = place_storable c at h.0
 
--- an owner's next step stores a number of 64 bits, if any
-pub next_step_storable : (a : OwnerState) (step : Step) → HaveNumbers a.left → next_action a ≡ actions.Step step → IsStorable step
-next_step_storable a step h is = subst IsStorableAction is (storable_in a.place a.left h)
+-- what an owner stores next, if anything, is a number of 64 bits
+pub next_storable : (a : OwnerState) → HaveNumbers a.left → IsStorableAction (next_action a)
+next_storable a h = storable_in a.place a.left h

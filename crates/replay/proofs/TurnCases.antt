@@ -1,4 +1,4 @@
--- What holds of a machine holds behind a turn, where it holds behind each action of an actor that hasn't ended.
+-- What holds of a run holds behind a turn, where it holds behind each action of an actor that hasn't ended.
 use Rattle.std.proofs.Common.{◌≡◌, ℕ, zero, suc, ◌<◌, Bool, true, false, if◌then◌else◌, [], length, refl, ap, arith}
 use Rattle.std.proofs.lemmas.List.{get_or_past}
 use mathlib.Core.Logic.{dite}
@@ -7,29 +7,31 @@ use Rattle.evac_model.specs.declared.scenario.Actor.{Actor}
 use Rattle.evac_model.specs.declared.scenario.Actor.TheVariants.{Owner, Host, Scanner}
 use Rattle.core_actors.specs.Hosts.{host_action, host_ended}
 use Rattle.core_actors.specs.Owners.{OwnerState, owner_at_start, owner_ended, next_action}
-use Rattle.replay.specs.Machine.{Setting, Machine, free_seat, unplugged_seat, owner_of, scene_of, with_scene, after_action, host_scene_of, with_host_scene, after_host_action, after_turn}
+use Rattle.machine.specs.Made.{made}
+use Rattle.machine.specs.World.{Setting}
+use Rattle.replay.specs.Running.{Running, owner_of, owner_acted, host_acted, after_turn}
 
-module _ (c : Setting) (m : Machine) (P : Machine → Type 0) where
-  -- the machine behind the next action of an owner
-  abbrev owner_acted : ℕ → Machine
-  owner_acted i = with_scene m (suc i) (after_action c (suc i) (free_seat (length m.owners)) (scene_of m (suc i)) (next_action (owner_of m.owners (suc i))))
+module _ (c : Setting) (m : Running) (P : Running → Type 0) where
+  -- the run behind the next action of an owner
+  abbrev behind_owner : ℕ → Running
+  behind_owner i = owner_acted m (suc i) (made c (suc i) m.world (next_action (owner_of m.owners (suc i))))
 
-  -- the machine behind the next action of the host
-  abbrev host_acted : Machine
-  host_acted = with_host_scene m (after_host_action c.sizes (free_seat (length m.owners)) (unplugged_seat (length m.owners)) (host_scene_of m) (host_action m.host))
+  -- the run behind the next action of the host
+  abbrev behind_host : Running
+  behind_host = host_acted m (made c 0 m.world (host_action m.host))
 
-  module _ (now : P m) (owners : (i : ℕ) → i < length m.owners → owner_ended (owner_of m.owners (suc i)) ≡ false → P (owner_acted i)) (host : host_ended m.host ≡ false → P host_acted) where
+  module _ (now : P m) (owners : (i : ℕ) → i < length m.owners → owner_ended (owner_of m.owners (suc i)) ≡ false → P (behind_owner i)) (host : host_ended m.host ≡ false → P behind_host) where
     -- an owner that isn't there has ended
-    owner_goes : (i : ℕ) → owner_ended (owner_of m.owners (suc i)) ≡ false → P (owner_acted i)
+    owner_goes : (i : ℕ) → owner_ended (owner_of m.owners (suc i)) ≡ false → P (behind_owner i)
     owner_goes i going = dite (dec_lt i (length m.owners))
         (λ below. owners i below going)
         (λ past. let none : owner_ended (owner_of m.owners (suc i)) ≡ true = ap (λ (a : OwnerState). owner_ended a) (get_or_past m.owners i (owner_at_start 0 0 []) (omega arith)) in absurd (cc))
 
-    owner_turn : (i : ℕ) (b : Bool) → owner_ended (owner_of m.owners (suc i)) ≡ b → P (if b then m else owner_acted i)
+    owner_turn : (i : ℕ) (b : Bool) → owner_ended (owner_of m.owners (suc i)) ≡ b → P (if b then m else behind_owner i)
     owner_turn i true ended = now
     owner_turn i false going = owner_goes i going
 
-    host_turn : (b : Bool) → host_ended m.host ≡ b → P (if b then m else host_acted)
+    host_turn : (b : Bool) → host_ended m.host ≡ b → P (if b then m else behind_host)
     host_turn true ended = now
     host_turn false going = host going
 

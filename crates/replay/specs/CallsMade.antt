@@ -19,7 +19,8 @@ use Rattle.core_actors.specs.declared.action.LeaseSeen.{LeaseSeen}
 use Rattle.core_actors.specs.declared.action.LeaseSeen.TheVariants.{NotAsked, Got, Refused}
 use Rattle.core_actors.specs.Owners.{OwnerState}
 use Rattle.core_actors.specs.Places.{lease_seen, frame_owed}
-use Rattle.replay.specs.Machine.{Machine, space_at}
+use Rattle.machine.specs.World.{space_at}
+use Rattle.replay.specs.Running.{Running}
 use Rattle.replay.specs.Runs.{setting}
 
 -- the lease of an alloc, if it gave a frame
@@ -74,6 +75,6 @@ pub record AreOwnersCallsMade (s : Scenario) (journal : List SpaceAction) (who :
   pub now : IsRefusedNow s journal who entries a.left (lease_seen a.place)
 
 -- each owner's actions are those of its calls, and nobody else makes any but the driver
-pub record AreCallsMade (s : Scenario) (m : Machine) : Type 0 where
-  pub owners : (i : ℕ) (a : OwnerState) (v : View) → slice_get m.owners i ≡ Some a → Has m.snapshot.views (suc i) v → AreOwnersCallsMade s m.journal (suc i) a v.entries
-  pub others : (who : ℕ) → length m.owners < who → actions_of who m.journal ≡ []
+pub record AreCallsMade (s : Scenario) (m : Running) : Type 0 where
+  pub owners : (i : ℕ) (a : OwnerState) (v : View) → slice_get m.owners i ≡ Some a → Has m.world.snapshot.views (suc i) v → AreOwnersCallsMade s m.world.space (suc i) a v.entries
+  pub others : (who : ℕ) → length m.owners < who → actions_of who m.world.space ≡ []

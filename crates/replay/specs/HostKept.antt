@@ -4,15 +4,15 @@ use Rattle.std.specs.List.{AllByRecursion}
 use Rattle.evac_model.specs.declared.host.HostLine.{HostLine}
 use Rattle.evac_model.specs.declared.host.HostResult.{HostResult}
 use Rattle.evac_model.specs.declared.scenario.Scenario.{Scenario}
-use Rattle.evac_model.specs.DeviceAnswer.{DeviceState, device_at_start}
-use Rattle.evac_model.specs.HostCommands.{onlines_of, host_actions, host_lines, host_onlines, AreAnswered}
+use Rattle.evac_model.specs.DeviceAnswer.{device_at_start}
+use Rattle.evac_model.specs.HostCommands.{blocks_of, onlines_of, host_actions, host_lines, host_onlines}
+use Rattle.evac_model.specs.Numbers.{is_in}
 use Rattle.evac_model.specs.Pairing.{actions_of}
 use Rattle.evac_model.specs.Scenarios.{IsHostCommand}
 use Rattle.core_actors.specs.Hosts.{HostState, to_ask, IsHostUnderWay}
-use Rattle.replay.specs.Machine.{Machine, device_at}
-
-abbrev pub device_now : Scenario → Machine → DeviceState
-device_now s m = device_at s.geometry m.device
+use Rattle.machine.specs.World.{device_now, is_held}
+use Rattle.replay.specs.Running.{Running}
+use Rattle.replay.specs.Runs.{setting}
 
 -- the line of the command whose blocks are being put online
 abbrev pub line_of_result : (number : ℕ) → Option HostResult → List HostLine
@@ -24,13 +24,13 @@ abbrev pub next_number : HostState → ℕ
 next_number h = if is_some h.result then suc h.number else h.number
 
 -- What the host has done, and behind it what is still to come by the device as it stands, is what its commands do:
--- their lines, the device's actions, and the blocks that are put online. Each response is the device's answer by the
--- actions before it.
-pub record IsHostKept (s : Scenario) (m : Machine) : Type 0 where
+-- their lines, the device's actions, and the blocks that are put online. The blocks that it is to put online are those
+-- that the driver holds.
+pub record IsHostKept (s : Scenario) (m : Running) : Type 0 where
   pub sizes : m.host.sizes ≡ s.geometry
   pub under_way : IsHostUnderWay m.host
   pub commands : AllByRecursion IsHostCommand m.host.left
-  pub lines : m.lines ++ line_of_result m.host.number m.host.result ++ host_lines s.geometry (device_now s m) (next_number m.host) (to_ask m.host) ≡ host_lines s.geometry (device_at_start s.geometry) 0 s.host
-  pub actions : m.device ++ host_actions s.geometry (device_now s m) (to_ask m.host) ≡ host_actions s.geometry (device_at_start s.geometry) s.host
-  pub onlines : actions_of 0 m.journal ++ onlines_of m.host.online ++ host_onlines s.geometry (device_now s m) (to_ask m.host) ≡ host_onlines s.geometry (device_at_start s.geometry) s.host
-  pub answered : AreAnswered s.geometry (device_at_start s.geometry) m.device
+  pub lines : m.lines ++ line_of_result m.host.number m.host.result ++ host_lines s.geometry (device_now (setting s) m.world) (next_number m.host) (to_ask m.host) ≡ host_lines s.geometry (device_at_start s.geometry) 0 s.host
+  pub actions : m.world.device ++ host_actions s.geometry (device_now (setting s) m.world) (to_ask m.host) ≡ host_actions s.geometry (device_at_start s.geometry) s.host
+  pub onlines : actions_of 0 m.world.space ++ onlines_of m.host.online ++ host_onlines s.geometry (device_now (setting s) m.world) (to_ask m.host) ≡ host_onlines s.geometry (device_at_start s.geometry) s.host
+  pub held : (block : ℕ) → is_in block (blocks_of m.host.online) ≡ is_held (setting s) m.world block

@@ -1,4 +1,4 @@
--- What holds of the machine between any two turns.
+-- What holds of a run between any two turns.
 use Rattle.std.specs.Prelude.{◌≡◌, ◌⊎◌, ℕ, ◌+◌, ◌<◌, ⊤, suc, List, [], ◌∷◌, length, slice_get, Some}
 use Rattle.std.specs.List.{AllByRecursion}
 use Rattle.evac_model.specs.declared.scenario.Scenario.{Scenario}
@@ -11,13 +11,13 @@ use Rattle.core_state.specs.declared.held.Held.{Held}
 use Rattle.core_state.specs.declared.opening.Opening.{Opening}
 use Rattle.core_state.specs.declared.view.View.{View}
 use Rattle.core_state.specs.HandOvers.{IsAtRest}
-use Rattle.core_state.specs.Sound.{Sound}
 use Rattle.core_state.specs.Views.{Has}
 use Rattle.core_actors.specs.Owners.{OwnerState}
 use Rattle.core_actors.specs.Fits.{Fits}
-use Rattle.replay.specs.Machine.{Machine}
-use Rattle.replay.specs.Runs.{opening}
-use Rattle.replay.specs.FramesOut.{AreFramesPlaced}
+use Rattle.machine.specs.Consistent.{IsConsistent}
+use Rattle.replay.specs.Running.{Running}
+use Rattle.replay.specs.Runs.{opening, setting}
+use Rattle.replay.specs.FramesInHand.{AreFramesInHand}
 use Rattle.replay.specs.CallsMade.{AreCallsMade}
 use Rattle.replay.specs.HostKept.{IsHostKept}
 
@@ -41,19 +41,19 @@ pub record IsIdle (o : Opening) (v : View) : Type 0 where
   pub rests : IsAtRest o v
   pub entries : v.entries ≡ []
 
--- The snapshot is sound, each owner's seat is as its script has it, and the other seats make no calls.
-pub record AreSeatsKept (s : Scenario) (m : Machine) : Type 0 where
-  pub sound : Sound (opening s) m.snapshot.words m.snapshot.views
+-- Each owner's seat is as its script has it, and the other seats make no calls.
+pub record AreSeatsKept (s : Scenario) (m : Running) : Type 0 where
   pub owners : length m.owners ≡ length s.owners
-  pub seats : length m.snapshot.views ≡ length s.owners + 4
-  pub fits : (i : ℕ) (a : OwnerState) (v : View) → slice_get m.owners i ≡ Some a → Has m.snapshot.views (suc i) v → (a.owner ≡ suc i) × Fits s.geometry (opening s) (script_of s.owners (suc i)) v a × HaveNumbers a.left
-  pub in_order : (i : ℕ) (v : View) → Has m.snapshot.views i v → IsInOrder v
-  pub others : (i : ℕ) (v : View) → Has m.snapshot.views i v → (i ≡ 0) ⊎ (length s.owners < i) → IsIdle (opening s) v
+  pub fits : (i : ℕ) (a : OwnerState) (v : View) → slice_get m.owners i ≡ Some a → Has m.world.snapshot.views (suc i) v → (a.owner ≡ suc i) × Fits s.geometry (opening s) (script_of s.owners (suc i)) v a × HaveNumbers a.left
+  pub in_order : (i : ℕ) (v : View) → Has m.world.snapshot.views i v → IsInOrder v
+  pub others : (i : ℕ) (v : View) → Has m.world.snapshot.views i v → (i ≡ 0) ⊎ (length s.owners < i) → IsIdle (opening s) v
 
--- The seats are kept, the frames are where the two journals have them, each owner's leases and returns are those of
--- its calls, and what the host and the device do is what the commands do.
-pub record IsKept (s : Scenario) (m : Machine) : Type 0 where
+-- The world is consistent, the seats are kept, frames in the hands of owners and of the driver are out for their calls
+-- or held, each owner's leases and returns are those of its calls, and what the host and the device do is what the
+-- commands do.
+pub record IsKept (s : Scenario) (m : Running) : Type 0 where
+  pub world : IsConsistent (setting s) m.world
   pub seats : AreSeatsKept s m
-  pub frames : AreFramesPlaced s m
+  pub frames : AreFramesInHand s m
   pub calls : AreCallsMade s m
   pub host : IsHostKept s m

@@ -8,10 +8,10 @@ use Rattle.evac_model.specs.Geometry.{Sizes}
 use Rattle.evac_model.specs.ScenarioGrammar.{call_count}
 use Rattle.evac_model.specs.Scenarios.{IsRunnable}
 use Rattle.replay.specs.declared.replay.Replay.TheInside.{Inside}
-use Rattle.replay.specs.Machine.{Run}
-use Rattle.replay.specs.Runs.{setting, machine_at_start}
+use Rattle.replay.specs.Running.{Run}
+use Rattle.replay.specs.Runs.{setting, running_at_start}
 
--- the turns that are to be made, and the machine at the start
+-- the turns that are to be made, and the run at its start
 pub record ReplayState : Type 0 where
   pub geometry : Sizes
   pub named : List Turn
@@ -28,7 +28,7 @@ replay_of s = record {
   drawn = s.drawn;
   calls = call_count s.owners;
   commands = s.host;
-  run = record { setting = setting s; machine = machine_at_start s };
+  run = record { setting = setting s; running = running_at_start s };
 }
 
 abbrev pub state_of : Inside → ReplayState

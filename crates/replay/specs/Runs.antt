@@ -17,14 +17,16 @@ use Rattle.evac_model.specs.Scripts.{IsOfScripts}
 use Rattle.evac_words.specs.Word.{mapped_bit, pins_of, frame_of}
 use Rattle.core_state.specs.declared.opening.Opening.{Opening}
 use Rattle.core_state.specs.Words.{entry_word_of, cells_of_frame, kind_in}
-use Rattle.core_state.specs.CoreOpens.{opening_of, opening_words, opening_views}
+use Rattle.core_state.specs.CoreOpens.{opening_of}
 use Rattle.core_state.specs.Histories.{IsHistoryOf}
 use Rattle.core_actors.specs.Hosts.{host_at_start, host_ended}
 use Rattle.core_actors.specs.Owners.{OwnerState, owner_at_start, owner_ended}
 use Rattle.report.specs.declared.report.FinalPage.{FinalPage}
 use Rattle.report.specs.declared.report.Report.{Report}
 use Rattle.report.specs.FinalPages.{final_page, pages_state}
-use Rattle.replay.specs.Machine.{Setting, Machine, device_at, after_turns}
+use Rattle.machine.specs.Start.{world_at_start}
+use Rattle.machine.specs.World.{Setting, device_at}
+use Rattle.replay.specs.Running.{Running, after_turns}
 use Rattle.replay.specs.Schedule.{schedule, round_count}
 
 -- ---- the run
@@ -43,30 +45,29 @@ opening s = opening_of s.geometry s.start (budgets_of s.owners)
 
 -- what a scenario's run begins with
 abbrev pub setting : Scenario → Setting
-setting s = record { opening = opening s; sizes = s.geometry; online = online_of s; space = space_at_start s.geometry s.start }
+setting s =
+    record { opening = opening s; sizes = s.geometry; online = online_of s; space = space_at_start s.geometry s.start; owners = length s.owners }
 
-abbrev pub machine_at_start : Scenario → Machine
-machine_at_start s = record {
-  snapshot = record { words = opening_words s.geometry s.start; views = opening_views s.geometry s.start (budgets_of s.owners) };
+abbrev pub running_at_start : Scenario → Running
+running_at_start s = record {
+  world = world_at_start s.geometry s.start (budgets_of s.owners);
   owners = owners_from s.geometry.cells 1 s.owners;
-  journal = [];
   host = host_at_start s.geometry s.host;
   lines = [];
-  device = [];
 }
 
 abbrev pub AllEnded : List OwnerState → Type 0
 AllEnded owners = (i : ℕ) (a : OwnerState) → slice_get owners i ≡ Some a → owner_ended a ≡ true
 
 -- all owners and the host have ended
-pub record HaveEnded (m : Machine) : Type 0 where
+pub record HaveEnded (m : Running) : Type 0 where
   pub owners : AllEnded m.owners
   pub host : host_ended m.host ≡ true
 
--- The machine after the run: the turns of the schedule were made, with as many rounds as the bound has,
+-- The run at its end: the turns of the schedule were made, with as many rounds as the bound has,
 -- and all actors have ended. From the moment on when they have, a turn changes nothing.
-pub record IsScheduledRun (s : Scenario) (m : Machine) : Type 0 where
-  pub made : m ≡ after_turns (setting s) (machine_at_start s) (schedule s (round_count s))
+pub record IsScheduledRun (s : Scenario) (m : Running) : Type 0 where
+  pub made : m ≡ after_turns (setting s) (running_at_start s) (schedule s (round_count s))
   pub ended : HaveEnded m
 
 -- ---- its report
@@ -87,21 +88,21 @@ shown_below o words (suc n) = shown_below o words n ++ final_page n (shown_page 
 abbrev pub block_list : List ℕ → List BlockNo
 block_list numbers = map (λ b. record { 0 = b }) numbers
 
--- what the machine leaves: the entries in ticket order, the host's commands with their lines, the actions of the
+-- what the run leaves: the entries in ticket order, the host's commands with their lines, the actions of the
 -- frame space and of the memory device, the blocks that are plugged by these, and the pages
-pub record IsReportAfter (s : Scenario) (m : Machine) (r : Report) : Type 0 where
-  pub history : IsHistoryOf (opening s) m.snapshot.words m.snapshot.views r.history
+pub record IsReportAfter (s : Scenario) (m : Running) (r : Report) : Type 0 where
+  pub history : IsHistoryOf (opening s) m.world.snapshot.words m.world.snapshot.views r.history
   pub host : r.host ≡ host_runs s.host m.lines
-  pub space : r.space_journal ≡ m.journal
-  pub device : r.device_journal ≡ m.device
-  pub plugged : r.plugged ≡ block_list (device_at s.geometry m.device).plugged
-  pub pages : r.pages ≡ shown_below (opening s) m.snapshot.words s.geometry.pages
+  pub space : r.space_journal ≡ m.world.space
+  pub device : r.device_journal ≡ m.world.device
+  pub plugged : r.plugged ≡ block_list (device_at s.geometry m.world.device).plugged
+  pub pages : r.pages ≡ shown_below (opening s) m.world.snapshot.words s.geometry.pages
 
 -- the report is that of the scheduled run
 pub record IsReportOfRun (s : Scenario) (r : Report) : Type 0 where
-  pub machine : Machine
-  pub run : IsScheduledRun s machine
-  pub report : IsReportAfter s machine r
+  pub running : Running
+  pub run : IsScheduledRun s running
+  pub report : IsReportAfter s running r
 
 -- ---- what follows of the report
 

@@ -1,32 +1,43 @@
 //! Laws of the scheduled run. Each function has an empty body: its contract is the law.
 
-ghost use Rattle.std.specs.Prelude.{◌≡◌, List, length};
+ghost use Rattle.std.specs.Prelude.{◌≡◌, ◌<◌, ℕ, false, List, length};
 ghost use Rattle.evac_model.specs.declared.scenario.Actor.{Actor};
 ghost use Rattle.evac_model.specs.declared.scenario.Scenario.{Scenario};
 ghost use Rattle.evac_model.specs.Scenarios.{IsRunnable};
+ghost use Rattle.evac_model.specs.SpaceJournal.{is_frame_in};
+ghost use Rattle.evac_words.specs.Word.{mapped_bit, frame_of};
+ghost use Rattle.core_state.specs.Words.{entry_word_of};
+ghost use Rattle.machine.specs.World.{World, unplugged_now};
 ghost use Rattle.report.specs.declared.report.Report.{Report};
-ghost use Rattle.replay.specs.Machine.{Machine, after_turn, after_turns};
+ghost use Rattle.replay.specs.Running.{Running, after_turn, after_turns};
 ghost use Rattle.replay.specs.Schedule.{schedule, round_count, turn_bound};
 ghost use Rattle.replay.specs.Keeping.{IsKept};
-ghost use Rattle.replay.specs.Runs.{setting, machine_at_start, HaveEnded, IsReportAfter, IsReportOf};
+ghost use Rattle.replay.specs.Runs.{setting, running_at_start, HaveEnded, IsReportAfter, IsReportOf};
 
-/// The machine at the start is sound, each owner's seat is at the start of its script, the frames are where the
+/// The world at the start is consistent, each owner's seat is at the start of its script, the frames are where the
 /// space and the device have them, and the host is at the start of its commands.
 pub fn starts_are_kept()
-    ensures { (s : Scenario) → IsRunnable s → IsKept s (machine_at_start s) }
+    ensures { (s : Scenario) → IsRunnable s → IsKept s (running_at_start s) }
 {}
 
-/// Each turn of each actor keeps the machine sound, each owner's seat as its script has it, the frames where
+/// Each turn of each actor keeps the world consistent, each owner's seat as its script has it, the frames where
 /// the journals of the space and of the device have them, each owner's leases and returns those of its calls, and
 /// what the host and the device did what the commands do.
 pub fn turns_are_kept()
-    ensures { (s : Scenario) (m : Machine) (actor : Actor) → IsRunnable s → IsKept s m → IsKept s (after_turn (setting s) m actor) }
+    ensures { (s : Scenario) (m : Running) (actor : Actor) → IsRunnable s → IsKept s m → IsKept s (after_turn (setting s) m actor) }
+{}
+
+/// At every moment of a run, whatever turns were made, no mapped page lies in an unplugged block.
+pub fn no_mapped_page_is_unplugged()
+    ensures { (s : Scenario) (turns : List Actor) (page : ℕ) → IsRunnable s → page < s.geometry.pages
+        → (let w : World = (after_turns (setting s) (running_at_start s) turns).world in
+        mapped_bit (entry_word_of w.snapshot.words page) ≡ 1 → is_frame_in s.geometry (unplugged_now (setting s) w) (frame_of (entry_word_of w.snapshot.words page)) ≡ false) }
 {}
 
 /// After the named and the drawn turns and so many rounds as the calls and the commands could have steps, and one
 /// more, every actor has ended.
 pub fn runs_end_within_their_bound()
-    ensures { (s : Scenario) → IsRunnable s → HaveEnded (after_turns (setting s) (machine_at_start s) (schedule s (round_count s))) }
+    ensures { (s : Scenario) → IsRunnable s → HaveEnded (after_turns (setting s) (running_at_start s) (schedule s (round_count s))) }
 {}
 
 /// So many turns are those of the bound.
@@ -39,5 +50,5 @@ pub fn bounds_count_turns()
 /// journal are those of the commands, the frames out at the end are those of the mapped pages, and the plugged
 /// blocks what the device's journal leaves.
 pub fn reports_tell_legal_histories()
-    ensures { (s : Scenario) (m : Machine) (r : Report) → IsRunnable s → IsKept s m → HaveEnded m → IsReportAfter s m r → IsReportOf s r }
+    ensures { (s : Scenario) (m : Running) (r : Report) → IsRunnable s → IsKept s m → HaveEnded m → IsReportAfter s m r → IsReportOf s r }
 {}

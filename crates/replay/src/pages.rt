@@ -8,10 +8,10 @@ ghost use Rattle.report.specs.FinalPages.{final_page};
 ghost use Rattle.replay.specs.Runs.{block_list, shown_page, shown_below};
 ghost use Rattle.replay.specs.Shown.{MapsInside};
 
+use block_map::BlockMap;
 use core_state::Opening;
 use evac_model::{BlockNo, Kind, Listed, PageNo};
 use evac_words::{cell_index, entry_index, unpack};
-use mem_device::BlockMap;
 use report::FinalPage;
 use std::alloc::{AllocError, Global};
 

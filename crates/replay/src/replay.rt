@@ -3,41 +3,33 @@
 ghost use Rattle.std.specs.Prelude.{◌≡◌, ◌<◌, ◌≤◌, ◌^◌, ℕ, List, [], length, Ok, IfOk, IsSome};
 ghost use Rattle.std.specs.List.{AllByRecursion};
 ghost use Rattle.evac_model.specs.Scenarios.{IsRunnable, IsOwnerCall};
-ghost use Rattle.evac_model.specs.ScenarioGrammar.{call_count, online_of};
+ghost use Rattle.evac_model.specs.ScenarioGrammar.{call_count};
 ghost use Rattle.evac_model.specs.Turns.{turn_count};
 ghost use Rattle.evac_model.specs.declared.entry.Entry.{Entry};
 ghost use Rattle.evac_model.specs.declared.scenario.Scenario.{Scenario};
 ghost use Rattle.replay.specs.Keeping.{IsKept};
 ghost use Rattle.core_state.specs.declared.opening.Opening.{Opening};
-ghost use Rattle.core_state.specs.CoreState.{IsSound};
 ghost use Rattle.core_state.specs.Histories.{IsHistoryOf};
 ghost use Rattle.core_state.specs.Pages.{entry_with};
 ghost use Rattle.core_state.specs.Words.{next_ticket_of};
-ghost use Rattle.core_actors.specs.Hosts.{host_at_start};
-ghost use Rattle.evac_model.specs.SpaceJournal.{space_at_start};
-ghost use Rattle.replay.specs.Seats.{setting_of};
 ghost use Rattle.replay.specs.StartParts.{AreStartParts};
 ghost use Rattle.replay.specs.Notes.{report_with};
 ghost use Rattle.replay.specs.declared.replay.Notes.{Notes};
-ghost use Rattle.replay.specs.Runs.{budgets_of, owners_from, opening, setting, machine_at_start, HaveEnded, IsReportAfter};
+ghost use Rattle.replay.specs.Runs.{budgets_of, owners_from, opening, setting, running_at_start, HaveEnded, IsReportAfter};
 
 use crate::history::history;
-use crate::host_calls::ReplayDevice;
 use crate::host_report::runs;
-use crate::host_seat::HostSeat;
-use crate::machine::{Journals, Running};
-use crate::owner_seat::OwnerSeat;
 use crate::pages::{final_pages, plugged_blocks};
+use crate::running::Running;
 use crate::schedule;
 use core_actors::{Host, Owner};
 use core_state::{Core, Snapshot};
 use evac_model::{
-    BlockList, BlockNo, CallList, CommandList, Drawn, EntryList, Geometry, HostCommand,
-    HostRunList, Kind, Listed, OutOfMemory, Scenario, ScriptList, Turn, TurnList,
+    BlockList, CallList, CommandList, Drawn, EntryList, Geometry, HostCommand, HostRunList, Kind,
+    Listed, OutOfMemory, Scenario, ScriptList, Turn, TurnList,
 };
-use mem_device::{BlockHand, Device, SureSlate};
+use machine::{Journals, Machine};
 use report::{FinalPageList, Report};
-use space::Space;
 use std::alloc::{AllocError, Global};
 use std::marker::Model;
 
@@ -76,7 +68,7 @@ fn scripts_of(alloc: Global, scripts: &[CallList]) -> Result<ScriptList, AllocEr
 }
 
 /// The owners of the scripts, that of owner 1 first.
-fn owners(alloc: Global, g: &Geometry, scripts: Vec<CallList>) -> Result<Vec<OwnerSeat>, AllocError>
+fn owners(alloc: Global, g: &Geometry, scripts: Vec<CallList>) -> Result<Vec<Owner>, AllocError>
     requires calls { AllByRecursion (λ script. AllByRecursion (IsOwnerCall g.now) script) scripts.items }
     requires few { length scripts.items ≤ 16 }
     ensures { IfOk result (λ v. v.items ≡ owners_from g.now.cells 1 scripts.items) }
@@ -85,7 +77,7 @@ fn owners(alloc: Global, g: &Geometry, scripts: Vec<CallList>) -> Result<Vec<Own
     let mut number = 0;
     for script in scripts {
         number += 1;
-        seats.push(OwnerSeat::new(Owner::new(*g, number, script)))?;
+        seats.push(Owner::new(*g, number, script))?;
     }
     Ok(seats)
 }
@@ -126,14 +118,15 @@ struct Notes {
 
 /// What a machine leaves beside its entries and its journals.
 fn notes_of(alloc: Global, commands: &[HostCommand], run: &Running) -> Result<Notes, OutOfMemory>
-    ensures { IfOk result (λ notes. (s : Scenario) (h : List Entry) → run.now.setting ≡ setting s → commands.now ≡ s.host → IsKept s run.now.machine
-        → IsHistoryOf (opening s) run.now.machine.snapshot.words run.now.machine.snapshot.views h
-        → IsReportAfter s run.now.machine (report_with notes h run.now.machine.journal run.now.machine.device)) }
+    ensures { IfOk result (λ notes. (s : Scenario) (h : List Entry) → run.now.setting ≡ setting s → commands.now ≡ s.host → IsKept s run.now.running
+        → IsHistoryOf (opening s) run.now.running.world.snapshot.words run.now.running.world.snapshot.views h
+        → IsReportAfter s run.now.running (report_with notes h run.now.running.world.space run.now.running.world.device)) }
 {
-    let words = run.core.snapshot().words.as_slice();
-    let host = runs(alloc, commands, run.host.lines())?;
-    let pages = final_pages(alloc, run.core.opening(), words)?;
-    let plugged = plugged_blocks(alloc, run.device.plugged())?;
+    let core = run.machine.core();
+    let words = core.snapshot().words.as_slice();
+    let host = runs(alloc, commands, run.lines.as_slice())?;
+    let pages = final_pages(alloc, core.opening(), words)?;
+    let plugged = plugged_blocks(alloc, run.machine.plugged())?;
     Ok(Notes {
         host: Listed::from_vec(host),
         plugged: Listed::from_vec(plugged),
@@ -178,8 +171,8 @@ fn put_together(
 /// What a machine leaves whose actors have all ended. The scripts, and the memory that steps needed, are given
 /// back before the entries are put in order.
 fn report_of(alloc: Global, commands: &[HostCommand], run: Running) -> Result<Report, OutOfMemory>
-    requires ended { HaveEnded run.machine }
-    ensures { IfOk result (λ report. (s : Scenario) → run.setting ≡ setting s → commands.now ≡ s.host → IsKept s run.machine → IsReportAfter s run.machine report) }
+    requires ended { HaveEnded run.running }
+    ensures { IfOk result (λ report. (s : Scenario) → run.setting ≡ setting s → commands.now ≡ s.host → IsKept s run.running → IsReportAfter s run.running report) }
 {
     let notes = notes_of(alloc, commands, &run);
     let (core, journals) = run.into_parts();
@@ -187,86 +180,46 @@ fn report_of(alloc: Global, commands: &[HostCommand], run: Running) -> Result<Re
     put_together(notes, entries, journals)
 }
 
-/// The core of a scenario at its start.
-fn core_of(alloc: Global, s: &Scenario) -> Result<Core, OutOfMemory>
+/// The machine of a scenario at its start.
+fn machine_of(alloc: Global, s: &Scenario) -> Result<Machine, OutOfMemory>
     requires { IsRunnable s.now }
-    ensures opening { IfOk result (λ core. core.opening ≡ opening s.now) }
-    ensures snapshot { IfOk result (λ core. core.snapshot ≡ (machine_at_start s.now).snapshot) }
-    ensures sound { IfOk result (λ core. IsSound core) }
+    ensures setting { IfOk result (λ m. m.setting ≡ setting s.now) }
+    ensures world { IfOk result (λ m. m.world ≡ (running_at_start s.now).world) }
 {
     let budgets = budgets(alloc, s.owners.as_slice())?;
-    Ok(Core::open(alloc, s.geometry, s.start.as_slice(), budgets.as_slice())?)
-}
-
-/// The frame space of a scenario at its start.
-fn space_of(alloc: Global, s: &Scenario) -> Result<Space, OutOfMemory>
-    requires { IsRunnable s.now }
-    ensures { IfOk result (λ space. space ≡ record { sizes = s.now.geometry; online = online_of s.now; opening = space_at_start s.now.geometry s.now.start; journal = [] }) }
-{
     let online = s.online.unwrap_or(Kind::Movable);
-    Ok(Space::open(alloc, s.geometry, online, s.start.as_slice())?)
+    Ok(Machine::open(
+        alloc,
+        s.geometry,
+        online,
+        s.start.as_slice(),
+        budgets.as_slice(),
+    )?)
 }
 
-/// The memory device of a machine at its start.
-fn device_of(alloc: Global, g: Geometry) -> Result<ReplayDevice, OutOfMemory>
-    ensures sizes { IfOk result (λ device. device.sizes ≡ g) }
-    ensures journal { IfOk result (λ device. device.journal ≡ []) }
-{
-    let unplugged = BlockHand::new(alloc, g, BlockNo(g.plugged()), g.managed() - g.plugged())?;
-    Ok(Device::open(alloc, g, SureSlate::new(), unplugged)?)
-}
-
-/// A hand with no block, and with room for each block of a machine.
-fn empty_hand(alloc: Global, g: Geometry) -> Result<BlockHand, OutOfMemory>
-    ensures blocks { IfOk result (λ held. held.blocks ≡ []) }
-    ensures room { IfOk result (λ held. held.room ≡ g.managed) }
-{
-    Ok(BlockHand::new(alloc, g, BlockNo(0), 0)?)
-}
-
-/// The host of a scenario at the start of its commands.
-fn host_of(alloc: Global, s: &Scenario) -> Result<HostSeat, AllocError>
-    ensures { IfOk result (λ host. host ≡ record { state = host_at_start s.now.geometry s.now.host; lines = [] }) }
-{
-    let commands = commands_of(alloc, s.host.as_slice())?;
-    Ok(HostSeat::new(alloc, Host::new(s.geometry, commands)))
-}
-
-/// The parts of the machine of some scenario at its start, as one.
-fn joined(
-    core: Core,
-    space: Space,
-    device: ReplayDevice,
-    held: BlockHand,
-    host: HostSeat,
-    owners: Vec<OwnerSeat>,
-) -> Running
-    requires { AreStartParts core space host owners.items device.sizes device.journal held }
-    ensures { result ≡ record { setting = setting_of core.opening space; machine = record { snapshot = core.snapshot; owners = owners.items; journal = space.journal; host = host.state; lines = host.lines; device = device.journal } } }
+/// The machine of some scenario and its actors at the start, as one.
+fn joined(alloc: Global, machine: Machine, host: Host, owners: Vec<Owner>) -> Running
+    requires { AreStartParts machine host owners.items }
+    ensures { result ≡ record { setting = machine.setting; running = record { world = machine.world; owners = owners.items; host = host.state; lines = [] } } }
 {
     Running {
-        core,
-        space,
-        device,
-        held,
+        machine,
         host,
+        lines: Vec::new(alloc),
         owners: Listed::from_vec(owners),
     }
 }
 
-/// The machine of a scenario at its start. Its owners have the scripts that the scenario had.
+/// The run of a scenario at its start. Its owners have the scripts that the scenario had.
 fn running(alloc: Global, s: Scenario) -> Result<Running, OutOfMemory>
     requires { IsRunnable s }
-    ensures { IfOk result (λ r. r ≡ record { setting = setting s; machine = machine_at_start s }) }
+    ensures { IfOk result (λ r. r ≡ record { setting = setting s; running = running_at_start s }) }
 {
-    let host = host_of(alloc, &s)?;
-    let held = empty_hand(alloc, s.geometry)?;
-    let space = space_of(alloc, &s)?;
-    let core = core_of(alloc, &s)?;
+    let host = Host::new(s.geometry, commands_of(alloc, s.host.as_slice())?);
+    let machine = machine_of(alloc, &s)?;
     let geometry = s.geometry;
     let owners = owners(alloc, &geometry, s.owners.into_vec())?;
-    let device = device_of(alloc, geometry)?;
-    Ok(joined(core, space, device, held, host, owners))
+    Ok(joined(alloc, machine, host, owners))
 }
 
 /// A copy of a scenario.
@@ -285,7 +238,7 @@ fn scenario_of(alloc: Global, s: &Scenario) -> Result<Scenario, AllocError>
 }
 
 /// The replay of one scenario: its turns, and the machine at the start. Each turn makes one step of one
-/// actor: the next step of an owner's call on a word, or what it asks of the frame space; or what the host asks
+/// actor: the next action of an owner's call, on a word or on the frame space; or what the host asks
 /// of the memory device or of the frame space. The turns are the named ones, those that the generator draws, and
 /// then rounds over all actors until all have ended.
 #[derive(Drop)]
@@ -312,9 +265,9 @@ impl Replay {
     ghost use Rattle.std.specs.Prelude.{◌≡◌, ℕ, length, IfOk};
     ghost use Rattle.evac_model.specs.declared.scenario.Scenario.{Scenario};
     ghost use Rattle.evac_model.specs.Scenarios.{IsRunnable};
-    ghost use Rattle.replay.specs.Machine.{after_turns};
+    ghost use Rattle.replay.specs.Running.{after_turns};
     ghost use Rattle.replay.specs.ReplayInside.{replay_of};
-    ghost use Rattle.replay.specs.Runs.{setting, machine_at_start, HaveEnded, IsReportOfRun, IsReportOf};
+    ghost use Rattle.replay.specs.Runs.{setting, running_at_start, HaveEnded, IsReportOfRun, IsReportOf};
     ghost use Rattle.replay.specs.Schedule.{schedule, round_bound, round_count, turn_bound};
 
     /// The machine of a scenario at its start, and its turns. It takes the memory of the words, of the views
@@ -358,7 +311,7 @@ impl Replay {
     pub fn bound(&self) -> u64
         ensures bound { (s : Scenario) → self.now ≡ replay_of s → result ≡ turn_bound s }
         ensures ended { (s : Scenario) → IsRunnable s → self.now ≡ replay_of s → (length (schedule s (round_count s)) ≡ result)
-            × HaveEnded (after_turns (setting s) (machine_at_start s) (schedule s (round_count s))) }
+            × HaveEnded (after_turns (setting s) (running_at_start s) (schedule s (round_count s))) }
     {
         let drawn = match &self.drawn {
             Some(d) => u64::from(d.count),

@@ -1,10 +1,10 @@
 //! The turns of a schedule, in their order.
 
 ghost use Rattle.std.specs.Prelude.{◌≡◌, ◌+◌, ◌<◌, ◌≤◌, ◌∷◌, [], length, replicate, slice_index_or, OnOk};
-ghost use Rattle.replay.specs.Machine.{run_after};
+ghost use Rattle.replay.specs.Running.{run_after};
 ghost use Rattle.replay.specs.Schedule.{actors, named_turns, turns_from, generator_of, drawn_turns, rounds};
 
-use crate::machine::Running;
+use crate::running::Running;
 use evac_model::{Actor, Drawn, OutOfMemory, Turn};
 use rand_core::utils::NextWord;
 use rand_pcg::Pcg32;

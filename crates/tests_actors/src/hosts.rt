@@ -132,3 +132,31 @@ fn a_host_without_commands_has_ended(rt: HostRuntime) -> Result<(), Fail> {
     follow(&rt, &mut host, &table);
     Ok(())
 }
+
+#[test]
+fn a_host_ends_with_its_last_command(rt: HostRuntime) -> Result<(), Fail> {
+    let commands = vec![in rt.alloc();
+        HostCommand::Config,
+        HostCommand::Request { bytes: plug() },
+    ]?;
+    let g = Geometry::new(2, 4, 2, 4, 2, 8)?;
+    let mut host = Host::new(g, CommandList::from_vec(commands));
+    let table = [
+        (
+            Action::Device(DeviceCall::Config),
+            Heard::Device(DeviceHeard::Config(CONFIG)),
+        ),
+        (send(plug()), answered(DONE)),
+        (online(2), Heard::Nothing),
+        (online(3), Heard::Nothing),
+    ];
+    for (want, heard) in table {
+        assert!(rt; !host.has_ended());
+        assert_eq!(rt; host.action(), want);
+        host.hear(&heard);
+    }
+    assert!(rt; host.has_ended());
+    assert_eq!(rt; host.action(), Action::Ended);
+    assert_eq!(rt; host.line(), answer_line(1, DONE));
+    Ok(())
+}

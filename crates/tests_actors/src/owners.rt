@@ -102,6 +102,17 @@ fn follow(rt: &impl Abort, owner: &mut Owner, table: &[(Heard, Action)]) {
     }
 }
 
+/// The owner makes the action of each row, and hears the answer at once. It has ended just behind the last one.
+fn make_all(rt: &impl Abort, owner: &mut Owner, table: &[(Action, Heard)]) {
+    for (want, heard) in table {
+        assert!(rt; !owner.is_ended());
+        assert_eq!(rt; owner.action(), *want);
+        owner.hear(heard);
+    }
+    assert!(rt; owner.is_ended());
+    assert_eq!(rt; owner.action(), Action::Ended);
+}
+
 #[test]
 fn steps_of_a_write_a_read_and_an_add(rt: HostRuntime) -> Result<(), Fail> {
     let g = Geometry::new(4, 2, 2, 1, 1, 4)?;
@@ -241,5 +252,44 @@ fn frees_give_the_frame_back(rt: HostRuntime) -> Result<(), Fail> {
     ];
     follow(&rt, &mut owner, &table);
     assert!(rt; owner.has_ended());
+    Ok(())
+}
+
+#[test]
+fn a_script_ends_with_its_last_release(rt: HostRuntime) -> Result<(), Fail> {
+    let g = Geometry::new(4, 2, 2, 1, 1, 4)?;
+    let calls = vec![in rt.alloc(); (PAGE, Call::Free), (PAGE, Call::Pin)]?;
+    let mut owner = Owner::new(g, 1, CallList::from_vec(calls));
+    let table = [
+        (TAKE, Heard::Word(MAPPED + 1)),
+        (TAKE, Heard::Word(MAPPED)),
+        (DRAW, Heard::Word(2)),
+        (UNMAP, Heard::Nothing),
+        (release(Call::Free, Reply::Done), Heard::Nothing),
+        (back(FRAME), Heard::Nothing),
+        (TAKE, Heard::Word(UNMAPPED)),
+        (DRAW, Heard::Word(3)),
+        (release(Call::Pin, Reply::NotMapped), Heard::Nothing),
+    ];
+    make_all(&rt, &mut owner, &table);
+    Ok(())
+}
+
+#[test]
+fn a_script_ends_with_its_last_return(rt: HostRuntime) -> Result<(), Fail> {
+    let g = Geometry::new(2, 2, 2, 1, 1, 4)?;
+    let calls = vec![in rt.alloc(); (PAGE, ALLOC)]?;
+    let mut owner = Owner::new(g, 1, CallList::from_vec(calls));
+    let table = [
+        (LEASE, Heard::Leased(LEASED)),
+        (zero(0), Heard::Nothing),
+        (zero(1), Heard::Nothing),
+        (MARK_LEASED, Heard::Nothing),
+        (TAKE, Heard::Word(MAPPED)),
+        (DRAW, Heard::Word(2)),
+        (release(ALLOC, Reply::Mapped), Heard::Nothing),
+        (back(LEASED), Heard::Nothing),
+    ];
+    make_all(&rt, &mut owner, &table);
     Ok(())
 }

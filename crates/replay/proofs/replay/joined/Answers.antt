@@ -1,41 +1,30 @@
-use Rattle.std.proofs.Common.{◌≡◌, ◌∙◌, List, [], ap, sym, refl}
-use Rattle.evac_model.specs.declared.device_journal.DeviceAction.{DeviceAction}
+use Rattle.std.proofs.Common.{◌≡◌, ◌∙◌, List, [], refl, sym, subst}
+use Rattle.evac_model.specs.declared.host.HostLine.{HostLine}
 use Rattle.evac_model.specs.declared.scenario.Scenario.{Scenario}
-use Rattle.evac_model.specs.HostCommands.{blocks_of}
-use Rattle.core_state.specs.declared.opening.Opening.{Opening}
-use Rattle.core_state.specs.declared.snapshot.Snapshot.{Snapshot}
+use Rattle.core_actors.specs.Hosts.{HostState}
 use Rattle.core_actors.specs.Owners.{OwnerState}
-use Rattle.space.specs.JournaledSpace.{JournaledSpace}
-use Rattle.replay.specs.HostSeats.{HostSoFar}
-use Rattle.replay.specs.Machine.{Machine}
-use Rattle.replay.specs.RunningInside.{machine_of}
-use Rattle.replay.specs.Runs.{opening, machine_at_start}
-use Rattle.replay.specs.Seats.{setting_of}
-use Rattle.replay.proofs.Playing.{kept_at_start, quiet_at_start}
+use Rattle.machine.specs.World.{World}
+use Rattle.replay.specs.Keeping.{IsKept}
+use Rattle.replay.specs.Running.{Running}
+use Rattle.replay.specs.Runs.{running_at_start}
+use Rattle.replay.proofs.MachineKept.{starts_are_kept}
 use Rattle.replay.proofs.replay.joined.Goals as goal
 
--- the parts of a machine, each as it is at the start
-machine_is : (s : Scenario) (t : Snapshot) (owners : List OwnerState) (sp : JournaledSpace) (h : HostSoFar) (device : List DeviceAction)
-    → t ≡ (machine_at_start s).snapshot → owners ≡ (machine_at_start s).owners → sp.journal ≡ [] → h ≡ record { state = (machine_at_start s).host; lines = [] } → device ≡ []
-    → (let m : Machine = record { snapshot = t; owners = owners; journal = sp.journal; host = h.state; lines = h.lines; device = device } in m) ≡ machine_at_start s
-machine_is s t owners sp h device ts us js hs ds = rw (ts, us, js, hs, ds) refl
+-- the parts of a run, each as it is at the start
+running_is : (s : Scenario) (world : World) (owners : List OwnerState) (host : HostState) (lines : List HostLine)
+    → world ≡ (running_at_start s).world → owners ≡ (running_at_start s).owners → host ≡ (running_at_start s).host → lines ≡ []
+    → (let m : Running = record { world = world; owners = owners; host = host; lines = lines } in m) ≡ running_at_start s
+running_is s world owners host lines ws us hs ls = rw (ws, us, hs, ls) refl
 
 pub invariant_of-result : goal.invariant_of-result
 invariant_of-result c =
     let a = c.args in
     let r = c.requires in
-    let s = r.scenario in
-    let owners = c.from_vec.result in
     let owned = c.from_vec.ensures ∙ r.owned in
-    let m = machine_of (record { core = a.core; space = a.space; device = a.device; held = a.held; host = a.host; owners = owners }) in
-    let is = machine_is s a.core.snapshot owners a.space a.host a.device.journal r.snapshot owned (ap (λ (y : JournaledSpace). y.journal) r.spaced) r.hosted r.journal in
+    let is = running_is r.scenario a.machine.world c.from_vec.result a.host.state c.new.result.items r.world owned r.hosted c.new.ensures.items in
     record {
-      scenario = s;
+      scenario = r.scenario;
       runnable = r.runnable;
-      set = ap (λ (p : Opening). setting_of p a.space) r.opens ∙ ap (λ (y : JournaledSpace). setting_of (opening s) y) r.spaced;
-      kept = kept_at_start s m r.runnable is;
-      quiet = quiet_at_start s m is;
-      device = r.sized;
-      held = r.none ∙ sym (ap (λ (h : HostSoFar). blocks_of h.state.online) r.hosted);
-      room = r.room;
+      set = r.set;
+      kept = subst (λ (m : Running). IsKept r.scenario m) (sym is) (starts_are_kept r.scenario r.runnable);
     }

@@ -1,5 +1,5 @@
 use Rattle.std.proofs.Common.{◌≡◌, drop}
-use Rattle.replay.specs.Machine.{run_after}
+use Rattle.replay.specs.Running.{run_after}
 use Rattle.replay.specs.Schedule.{named_turns}
 use Rattle.replay.proofs.schedule.named.Given as goal
 

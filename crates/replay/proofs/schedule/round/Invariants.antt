@@ -1,5 +1,5 @@
 use Rattle.std.proofs.Common.{◌≡◌, ◌+◌, ◌-◌}
-use Rattle.replay.specs.Machine.{run_after}
+use Rattle.replay.specs.Running.{run_after}
 use Rattle.replay.specs.Schedule.{actors}
 use Rattle.replay.proofs.Schedules.{actors_from}
 use Rattle.replay.proofs.schedule.round.Given as goal

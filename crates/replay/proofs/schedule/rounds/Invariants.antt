@@ -1,5 +1,5 @@
 use Rattle.std.proofs.Common.{◌≡◌, ◌-◌}
-use Rattle.replay.specs.Machine.{run_after}
+use Rattle.replay.specs.Running.{run_after}
 use Rattle.replay.specs.Schedule.{actors, rounds}
 use Rattle.replay.proofs.schedule.rounds.Given as goal
 

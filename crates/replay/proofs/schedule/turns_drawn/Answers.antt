@@ -2,7 +2,7 @@ use Rattle.std.proofs.Common.{◌≡◌, ◌-◌, ◌+◌, ◌∙◌, ℕ, ap, a
 use Rattle.rand_pcg.specs.Lcg.{Lcg}
 use Rattle.rand_pcg.specs.Pcg.{pcg32}
 use Rattle.evac_model.specs.declared.scenario.Actor.{Actor}
-use Rattle.replay.specs.Machine.{run_after}
+use Rattle.replay.specs.Running.{run_after}
 use Rattle.replay.specs.Schedule.{actors, actor_for, turns_from}
 use Rattle.replay.proofs.Schedules.{after_first, drawn_first, actor_is}
 use Rattle.replay.proofs.schedule.turns_drawn.Goals as goal

@@ -1,5 +1,5 @@
 use Rattle.std.proofs.Common.{◌≡◌, ◌-◌}
-use Rattle.replay.specs.Machine.{run_after}
+use Rattle.replay.specs.Running.{run_after}
 use Rattle.replay.specs.Schedule.{actors, turns_from}
 use Rattle.replay.proofs.schedule.turns_drawn.Given as goal
 

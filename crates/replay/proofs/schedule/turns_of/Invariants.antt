@@ -1,6 +1,6 @@
 use Rattle.std.proofs.Common.{◌≡◌, ◌-◌}
 use Rattle.std.specs.Prelude.{replicate}
-use Rattle.replay.specs.Machine.{run_after}
+use Rattle.replay.specs.Running.{run_after}
 use Rattle.replay.proofs.schedule.turns_of.Given as goal
 
 abbrev pub invariant-loop-turn : goal.invariant-loop-turn
