@@ -16,7 +16,7 @@ use Rattle.evac_model.specs.HostCommands.{after_command, host_actions, host_line
 use Rattle.mem_codec.specs.ResponseBytes.{HasState}
 use Rattle.report.specs.declared.report.Report.{Report}
 use Rattle.report.specs.ReportText.{HasResultState, HasActState, HaveStates}
-use Rattle.replay.specs.Runs.{device_start, IsReportOf}
+use Rattle.report.specs.ReportOf.{device_start, IsReportOf}
 
 zero_fits : HasState (Ack 0)
 zero_fits = omega arith
@@ -84,6 +84,6 @@ runs_have_states s d number (commands.Config ∷ cs) = (tt, runs_have_states s (
 
 pub have_states : (s : Scenario) (r : Report) → IsReportOf s r → HaveStates r
 have_states s r h = record {
-  host = subst (λ l. AllByRecursion (λ x. HasResultState x.line.result) l) (sym h.host) (runs_have_states s.geometry (device_start s) 0 s.host);
-  device = subst (λ l. AllByRecursion (λ a. HasActState a.act) l) (sym h.device) (actions_have_states s.geometry (device_start s) s.host);
+  host = subst (λ l. AllByRecursion (λ x. HasResultState x.line.result) l) (sym h.host.lines) (runs_have_states s.geometry (device_start s) 0 s.host);
+  device = subst (λ l. AllByRecursion (λ a. HasActState a.act) l) (sym h.host.device) (actions_have_states s.geometry (device_start s) s.host);
 }

@@ -7,7 +7,8 @@ ghost use Rattle.evac_model.specs.declared.scenario.Scenario.{Scenario};
 ghost use Rattle.evac_model.specs.Scenarios.{IsRunnable};
 ghost use Rattle.evac.specs.Commands.{IsCommand};
 ghost use Rattle.evac.specs.Input.{IsAccepted, IsRefusedInput};
-ghost use Rattle.replay.specs.Runs.{IsReportOf, IsReportOfRun};
+ghost use Rattle.replay.specs.Runs.{IsReportOfRun};
+ghost use Rattle.report.specs.ReportOf.{IsReportOf};
 ghost use Rattle.report.specs.ReportText.{report_text};
 ghost use Rattle.evac.specs.Stops.{usage_line, read_fault_line, memory_line, status_of, Stops, TakesLine, IsCut, EndsBy, TellsRefusal};
 

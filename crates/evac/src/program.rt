@@ -13,7 +13,8 @@ ghost use Rattle.evac.specs.Commands.{IsCommandLine};
 ghost use Rattle.evac.specs.Input.{IsAccepted, IsRefusedInput};
 ghost use Rattle.evac.specs.Stops.{usage_line, read_fault_line, memory_line, TakesLine, IsCut, TellsRefusal};
 ghost use Rattle.evac.specs.declared.program.NoWords.TheVariants.{NotText, OutOfMemory};
-ghost use Rattle.replay.specs.Runs.{IsReportOf, IsReportOfRun};
+ghost use Rattle.replay.specs.Runs.{IsReportOfRun};
+ghost use Rattle.report.specs.ReportOf.{IsReportOf};
 ghost use Rattle.report.specs.ReportText.{report_text};
 
 use crate::commands::{finish_with_line, replay_main};

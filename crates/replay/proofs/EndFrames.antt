@@ -44,7 +44,8 @@ use Rattle.machine.specs.World.{HasFrame, scanner_seat, free_seat, unplugged_sea
 use Rattle.machine.proofs.SpaceNow.{space_is, offline_not_out}
 use Rattle.replay.specs.Keeping.{IsKept}
 use Rattle.replay.specs.Running.{Running, owner_of}
-use Rattle.replay.specs.Runs.{opening, setting, HaveEnded, block_list}
+use Rattle.replay.specs.Runs.{opening, setting, HaveEnded}
+use Rattle.report.specs.ReportOf.{block_list}
 use Rattle.replay.proofs.Acting.{setting_fits}
 use Rattle.replay.proofs.EndHost.{none_held_at_end}
 

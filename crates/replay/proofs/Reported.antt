@@ -41,7 +41,8 @@ use Rattle.report.proofs.PageLaws.{numbers, pages_state-pages_below, rising-belo
 use Rattle.machine.specs.World.{space_now, device_at}
 use Rattle.machine.proofs.SpaceNow.{offline_not_out}
 use Rattle.replay.specs.Running.{Running}
-use Rattle.replay.specs.Runs.{opening, setting, plain_start, shown_page, shown_below, block_list, HaveEnded, IsReportAfter, space_reported, device_start, device_reported, IsReportOf}
+use Rattle.replay.specs.Runs.{opening, setting, shown_page, shown_below, HaveEnded, IsReportAfter}
+use Rattle.report.specs.ReportOf.{plain_start, block_list, space_reported, device_start, device_reported, IsReportOf}
 use Rattle.replay.specs.Keeping.{IsKept}
 use Rattle.replay.proofs.Acting.{setting_fits}
 use Rattle.replay.proofs.Callers.{found_at, of_owner, of_scripts}
@@ -169,17 +170,17 @@ module _ (s : Scenario) (m : Running) (r : Report) (run : IsRunnable s) (k : IsK
 
   pub reports_tell_legal_histories : IsReportOf s r
   reports_tell_legal_histories = record {
-    legal = histories_are_legal o words views (plain_start s) r.history k.world.sound opens rep.history;
-    scripts = of_scripts s m k ended.owners r.history rep.history;
-    pages = ap pages_state pages ∙ pages_state-pages_below st s.geometry.pages beyond;
-    rising = subst (λ ps. IsStrictlyIncreasing (numbers ps)) (sym pages) (rising-below st s.geometry.pages).0;
-    host = host;
-    device = device;
-    answered = answered;
-    driver = driver;
-    plugged = plugged;
-    space = paired_at_end s m r run k ended.owners rep;
-    frames = frames;
-    offline = offline;
-    no_unplugged = no_unplugged;
+    calls = record {
+      legal = histories_are_legal o words views (plain_start s) r.history k.world.sound opens rep.history;
+      scripts = of_scripts s m k ended.owners r.history rep.history;
+      pages = ap pages_state pages ∙ pages_state-pages_below st s.geometry.pages beyond;
+      rising = subst (λ ps. IsStrictlyIncreasing (numbers ps)) (sym pages) (rising-below st s.geometry.pages).0;
+    };
+    frames = record {
+      space = paired_at_end s m r run k ended.owners rep;
+      out = frames;
+      offline = offline;
+      no_unplugged = no_unplugged;
+    };
+    host = record { lines = host; device = device; answered = answered; driver = driver; plugged = plugged };
   }

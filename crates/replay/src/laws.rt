@@ -12,7 +12,8 @@ ghost use Rattle.report.specs.declared.report.Report.{Report};
 ghost use Rattle.replay.specs.Running.{Running, after_turn, after_turns};
 ghost use Rattle.replay.specs.Schedule.{schedule, round_count, turn_bound};
 ghost use Rattle.replay.specs.Keeping.{IsKept};
-ghost use Rattle.replay.specs.Runs.{setting, running_at_start, HaveEnded, IsReportAfter, IsReportOf};
+ghost use Rattle.replay.specs.Runs.{setting, running_at_start, HaveEnded, IsReportAfter};
+ghost use Rattle.report.specs.ReportOf.{IsReportOf};
 
 /// The world at the start is consistent, each owner's seat is at the start of its script, the frames are where the
 /// space and the device have them, and the host is at the start of its commands.

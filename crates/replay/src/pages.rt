@@ -5,7 +5,8 @@ ghost use Rattle.evac_words.specs.Table.{table_length};
 ghost use Rattle.core_state.specs.Room.{IsSmall};
 ghost use Rattle.core_state.specs.Words.{cells_of_frame};
 ghost use Rattle.report.specs.FinalPages.{final_page};
-ghost use Rattle.replay.specs.Runs.{block_list, shown_page, shown_below};
+ghost use Rattle.replay.specs.Runs.{shown_page, shown_below};
+ghost use Rattle.report.specs.ReportOf.{block_list};
 ghost use Rattle.replay.specs.Shown.{MapsInside};
 
 use block_map::BlockMap;

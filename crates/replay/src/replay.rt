@@ -267,7 +267,8 @@ impl Replay {
     ghost use Rattle.evac_model.specs.Scenarios.{IsRunnable};
     ghost use Rattle.replay.specs.Running.{after_turns};
     ghost use Rattle.replay.specs.ReplayInside.{replay_of};
-    ghost use Rattle.replay.specs.Runs.{setting, running_at_start, HaveEnded, IsReportOfRun, IsReportOf};
+    ghost use Rattle.replay.specs.Runs.{setting, running_at_start, HaveEnded, IsReportOfRun};
+    ghost use Rattle.report.specs.ReportOf.{IsReportOf};
     ghost use Rattle.replay.specs.Schedule.{schedule, round_bound, round_count, turn_bound};
 
     /// The machine of a scenario at its start, and its turns. It takes the memory of the words, of the views

@@ -1,2 +1,4 @@
 pub mod ReportText
+pub mod Sections
 pub mod FinalPages
+pub mod ReportOf

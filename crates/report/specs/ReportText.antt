@@ -23,6 +23,8 @@ use Rattle.evac_model.specs.declared.reply.Reply.TheVariants.{Done, Values, Old,
 use Rattle.evac_model.specs.declared.space.SpaceAction.{SpaceAction}
 use Rattle.evac_model.specs.declared.space.SpaceAction.TheVariants.{Lease, MoveLease, Return, Isolate, Undo, Offline, Online}
 use Rattle.evac_model.specs.Spelling.{kind_word, call_words, command_words}
+use Rattle.report.specs.declared.line.Line.{Line}
+use Rattle.report.specs.declared.line.Line.TheVariants as lines
 use Rattle.report.specs.declared.report.FinalPage.{FinalPage}
 use Rattle.report.specs.declared.report.Report.{Report}
 
@@ -71,10 +73,9 @@ action_words (Undo block) = codes "undo" ∷ decimal block.0 ∷ []
 action_words (Offline block) = codes "offline" ∷ decimal block.0 ∷ []
 action_words (Online block) = codes "online" ∷ decimal block.0 ∷ []
 
--- the actions of a space journal, each with its place, where the first has this one
-abbrev pub space_text : ℕ → List SpaceAction → List ℕ
-space_text place [] = []
-space_text place (a ∷ actions) = line (codes "space") (decimal place ∷ action_words a) ++ space_text (place + 1) actions
+-- an action with its place
+abbrev pub action_text : (place : ℕ) → SpaceAction → List ℕ
+action_text place a = line (codes "space") (decimal place ∷ action_words a)
 
 -- an action of the memory device
 abbrev pub act_words : DeviceAct → List (List ℕ)
@@ -103,11 +104,9 @@ abbrev pub notice_text : (place : ℕ) → Notice → List ℕ
 notice_text place x =
     line (codes "notice") (decimal place ∷ key_word x.key ∷ told_words (decimal x.first.0 ∷ decimal x.n ∷ []) x.told)
 
--- the actions of a device journal, each with its place and behind it its notices, where the first has this place
-abbrev pub device_text : (place : ℕ) → List DeviceAction → List ℕ
-device_text place [] = []
-device_text place (a ∷ actions) =
-    line (codes "device") (decimal place ∷ act_words a.act) ++ flat_map (notice_text place) a.notices ++ device_text (place + 1) actions
+-- an action of the device with its place
+abbrev pub act_text : (place : ℕ) → DeviceAct → List ℕ
+act_text place act = line (codes "device") (decimal place ∷ act_words act)
 
 abbrev pub plugged_text : List BlockNo → List ℕ
 plugged_text blocks = line (codes "plugged") (map (λ b. decimal b.0) blocks)
@@ -121,10 +120,37 @@ cell_words cell (value ∷ values) =
 abbrev pub page_text : FinalPage → List ℕ
 page_text p = line (codes "page") (decimal p.page.0 ∷ kind_word p.kind ∷ decimal p.pins ∷ cell_words 0 p.cells)
 
+-- ---- lines
+
+abbrev pub line_text : Line → List ℕ
+line_text (lines.Call e) = entry_text e
+line_text (lines.Host r) = host_text r
+line_text (lines.Space place action) = action_text place action
+line_text (lines.Device place act) = act_text place act
+line_text (lines.Notice place x) = notice_text place x
+line_text (lines.Plugged blocks) = plugged_text blocks
+line_text (lines.Page p) = page_text p
+line_text lines.End = line (codes "end") []
+
+-- the actions of a space journal, each with its place, where the first has this one
+abbrev pub space_lines : (place : ℕ) → List SpaceAction → List Line
+space_lines place [] = []
+space_lines place (a ∷ actions) = lines.Space place a ∷ space_lines (place + 1) actions
+
+-- the actions of a device journal, each with its place and behind it its notices, where the first has this place
+abbrev pub device_lines : (place : ℕ) → List DeviceAction → List Line
+device_lines place [] = []
+device_lines place (a ∷ actions) =
+    lines.Device place a.act ∷ (map (λ x. lines.Notice place x) a.notices ++ device_lines (place + 1) actions)
+
+-- the lines of a report, in order
+abbrev pub report_lines : Report → List Line
+report_lines r =
+    map (λ e. lines.Call e) r.history ++ map (λ x. lines.Host x) r.host ++ space_lines 0 r.space_journal
+    ++ device_lines 0 r.device_journal ++ (lines.Plugged r.plugged ∷ (map (λ p. lines.Page p) r.pages ++ lines.End ∷ []))
+
 abbrev pub report_text : Report → List ℕ
-report_text r =
-    flat_map entry_text r.history ++ flat_map host_text r.host ++ space_text 0 r.space_journal ++ device_text 0 r.device_journal
-    ++ plugged_text r.plugged ++ flat_map page_text r.pages ++ line (codes "end") []
+report_text r = flat_map line_text (report_lines r)
 
 -- ---- what can be written
 

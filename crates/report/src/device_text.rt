@@ -3,7 +3,8 @@
 ghost use Rattle.std.specs.Prelude.{◌≡◌, ◌∷◌, [], ◌++◌, codes, OnOk};
 ghost use Rattle.std.specs.List.{AllByRecursion, flat_map};
 ghost use Rattle.std.specs.Fmt.{decimal};
-ghost use Rattle.report.specs.ReportText.{behind_space, line, act_words, key_word, told_words, notice_text, device_text, HasActState};
+ghost use Rattle.report.specs.ReportText.{behind_space, act_words, act_text, key_word, told_words, notice_text, HasActState};
+ghost use Rattle.report.specs.Sections.{device_text};
 
 use crate::words::{put_hex, put_number, put_numbers, put_response, put_word};
 use evac_model::{BlockNo, DeviceAct, DeviceAction, Notice, RequestBytes, Response, Told};
@@ -113,7 +114,7 @@ fn put_notices(out: &mut Vec<u8>, place: u64, notices: &[Notice]) -> Result<(), 
 /// Adds the line of the action that stands at that place of its journal, and those of its notices.
 fn put_action(out: &mut Vec<u8>, place: u64, action: &DeviceAction) -> Result<(), AllocError>
     requires { HasActState action.now.act }
-    ensures { OnOk result (out.new.items ≡ out.old.items ++ (line (codes "device") (decimal place ∷ act_words action.now.act) ++ flat_map (notice_text place) action.now.notices)) }
+    ensures { OnOk result (out.new.items ≡ out.old.items ++ (act_text place action.now.act ++ flat_map (notice_text place) action.now.notices)) }
 {
     out.extend_from_slice(b"device")?;
     put_number(out, place)?;

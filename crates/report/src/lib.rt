@@ -3,10 +3,12 @@
 
 mod device_text;
 mod host_text;
+mod line;
 mod report;
 mod space_text;
 mod text;
 mod words;
 
+pub use line::Line;
 pub use report::{FinalPage, FinalPageList, Report};
 pub use text::write_report;

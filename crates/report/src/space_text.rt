@@ -3,7 +3,8 @@
 ghost use Rattle.std.specs.Prelude.{◌≡◌, ◌∷◌, [], ◌++◌, codes, OnOk};
 ghost use Rattle.std.specs.List.{flat_map};
 ghost use Rattle.std.specs.Fmt.{decimal};
-ghost use Rattle.report.specs.ReportText.{behind_space, line, action_words, space_text};
+ghost use Rattle.report.specs.ReportText.{behind_space, action_words, action_text};
+ghost use Rattle.report.specs.Sections.{space_text};
 
 use crate::words::{put_kind, put_number, put_numbers, put_word};
 use evac_model::{BlockNo, FrameNo, Kind, PageNo, SpaceAction};
@@ -70,7 +71,7 @@ fn put_action_words(out: &mut Vec<u8>, action: &SpaceAction) -> Result<(), Alloc
 
 /// Adds the line of the action that stands at that place of its journal.
 fn put_action(out: &mut Vec<u8>, place: u64, action: &SpaceAction) -> Result<(), AllocError>
-    ensures { OnOk result (out.new.items ≡ out.old.items ++ line (codes "space") (decimal place ∷ action_words action.now)) }
+    ensures { OnOk result (out.new.items ≡ out.old.items ++ action_text place action.now) }
 {
     out.extend_from_slice(b"space")?;
     put_number(out, place)?;

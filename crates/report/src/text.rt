@@ -5,6 +5,7 @@ ghost use Rattle.std.specs.List.{flat_map};
 ghost use Rattle.std.specs.Fmt.{decimal};
 ghost use Rattle.evac_model.specs.Spelling.{call_words};
 ghost use Rattle.report.specs.ReportText.{behind_space, HaveStates, reply_words, entry_text, plugged_text, cell_words, page_text, report_text};
+ghost use Rattle.report.specs.Sections.{sections_text};
 
 use crate::host_text::put_runs;
 use crate::report::{FinalPage, Report};
@@ -146,9 +147,10 @@ fn put_pages(out: &mut Vec<u8>, pages: &[FinalPage]) -> Result<(), AllocError>
     Ok(())
 }
 
+/// Adds the sections of a report.
 fn put_report(out: &mut Vec<u8>, report: &Report) -> Result<(), AllocError>
     requires { HaveStates report.now }
-    ensures { OnOk result (out.new.items ≡ out.old.items ++ report_text report.now) }
+    ensures { OnOk result (out.new.items ≡ out.old.items ++ sections_text report.now) }
 {
     put_entries(out, &report.history)?;
     put_runs(out, report.host.as_slice())?;

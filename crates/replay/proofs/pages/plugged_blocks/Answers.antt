@@ -5,7 +5,7 @@ use Rattle.std.proofs.lemmas.List.Elements.{filter-append}
 use Rattle.std.proofs.lemmas.List.FromFn.{map-range_with_len_more}
 use Rattle.evac_model.specs.declared.names.BlockNo.{BlockNo}
 use Rattle.evac_model.specs.Numbers.{is_in, numbers_where}
-use Rattle.replay.specs.Runs.{block_list}
+use Rattle.report.specs.ReportOf.{block_list}
 use Rattle.replay.proofs.pages.plugged_blocks.Goals.{then-plugged+in_ok-push, else-plugged}
 use Rattle.replay.proofs.pages.plugged_blocks.Goals as goal
 

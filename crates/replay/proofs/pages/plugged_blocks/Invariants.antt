@@ -1,6 +1,6 @@
 use Rattle.std.proofs.Common.{◌≡◌}
 use Rattle.evac_model.specs.Numbers.{is_in, numbers_where}
-use Rattle.replay.specs.Runs.{block_list}
+use Rattle.report.specs.ReportOf.{block_list}
 use Rattle.replay.proofs.pages.plugged_blocks.Given as goal
 
 -- the plugged blocks below the number so far

@@ -7,7 +7,8 @@ use Rattle.core_state.specs.declared.snapshot.Snapshot.{Snapshot}
 use Rattle.core_state.specs.Histories.{IsHistoryOf}
 use Rattle.machine.specs.World.{Setting, device_now}
 use Rattle.replay.specs.Running.{Run}
-use Rattle.replay.specs.Runs.{opening, block_list, shown_below, IsReportAfter}
+use Rattle.replay.specs.Runs.{opening, shown_below, IsReportAfter}
+use Rattle.report.specs.ReportOf.{block_list}
 use Rattle.replay.specs.RunningInside.{running_of}
 use Rattle.replay.specs.Shown.{MapsInside}
 use Rattle.replay.proofs.Left.{maps_inside}

@@ -1,6 +1,7 @@
 use Rattle.std.proofs.Common.{◌≡◌, ◌++◌, drop}
 use Rattle.std.specs.List.{AllByRecursion}
-use Rattle.report.specs.ReportText.{device_text, HasActState}
+use Rattle.report.specs.ReportText.{HasActState}
+use Rattle.report.specs.Sections.{device_text}
 use Rattle.report.proofs.device_text.put_actions.Given as goal
 
 abbrev pub invariant-loop-place : goal.invariant-loop-place

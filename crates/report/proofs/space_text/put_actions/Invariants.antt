@@ -1,5 +1,5 @@
 use Rattle.std.proofs.Common.{◌≡◌, ◌++◌, drop}
-use Rattle.report.specs.ReportText.{space_text}
+use Rattle.report.specs.Sections.{space_text}
 use Rattle.report.proofs.space_text.put_actions.Given as goal
 
 abbrev pub invariant-loop-place : goal.invariant-loop-place

@@ -1,0 +1,72 @@
+-- What a report tells of a scenario's run, whatever its schedule was: the calls, the frames, the host and the memory device.
+use Rattle.std.specs.Prelude.{◌≡◌, ℕ, true, List, map, None}
+use Rattle.std.specs.List.Sorted.{IsStrictlyIncreasing}
+use Rattle.evac_model.specs.declared.names.BlockNo.{BlockNo}
+use Rattle.evac_model.specs.declared.scenario.Scenario.{Scenario}
+use Rattle.evac_model.specs.DeviceAnswer.{DeviceState, device_at_start, device_after}
+use Rattle.evac_model.specs.History.{after_entries, IsLegal}
+use Rattle.evac_model.specs.HostCommands.{host_actions, host_lines, host_onlines, host_runs, AreAnswered}
+use Rattle.evac_model.specs.Pairing.{actions_of, ArePaired, AreOutForPages, AreUnplugged}
+use Rattle.evac_model.specs.ScenarioGrammar.{online_of}
+use Rattle.evac_model.specs.Scripts.{IsOfScripts}
+use Rattle.evac_model.specs.SpaceJournal.{SpaceState, out_for, is_frame_in, space_after, space_at_start}
+use Rattle.evac_model.specs.State.{PlainState, start_state}
+use Rattle.report.specs.declared.report.Report.{Report}
+use Rattle.report.specs.FinalPages.{pages_state}
+
+-- blocks by their numbers
+abbrev pub block_list : List ℕ → List BlockNo
+block_list numbers = map (λ b. record { 0 = b }) numbers
+
+-- ---- what the scenario begins with, and what the report's actions leave
+
+-- the plain state in which a scenario starts
+abbrev pub plain_start : Scenario → PlainState
+plain_start s = start_state s.geometry.cells s.start
+
+-- the frame space behind the actions reported
+abbrev pub space_reported : Scenario → Report → SpaceState
+space_reported s r = space_after s.geometry (online_of s) (space_at_start s.geometry s.start) r.space_journal
+
+-- the memory device at the start, and behind the actions reported
+abbrev pub device_start : Scenario → DeviceState
+device_start s = device_at_start s.geometry
+
+abbrev pub device_reported : Scenario → Report → DeviceState
+device_reported s r = device_after s.geometry (device_start s) r.device_journal
+
+-- ---- the parts
+
+-- The calls reported, in ticket order, are one legal history of pages that never move, each script call once, in its
+-- caller's order, and the pages reported, rising, are the state after it.
+pub record AreCallsTold (s : Scenario) (r : Report) : Type 0 where
+  pub legal : IsLegal s.geometry.cells (plain_start s) r.history
+  pub scripts : IsOfScripts s.owners r.history
+  pub pages : pages_state r.pages ≡ after_entries s.geometry.cells (plain_start s) r.history
+  pub rising : IsStrictlyIncreasing (map (λ p. p.page.0) r.pages)
+
+-- The actions of the frame space are possible and are those of the calls, and a call has no frame only where none is free
+-- for it. The frames out at the end are those of the mapped pages, and the offline blocks those that aren't plugged. No
+-- frame that is out, and so no mapped page, lies in an offline block.
+pub record AreFramesTold (s : Scenario) (r : Report) : Type 0 where
+  pub space : ArePaired s.geometry (online_of s) (space_at_start s.geometry s.start) r.history r.space_journal
+  pub out : AreOutForPages (space_reported s r) (after_entries s.geometry.cells (plain_start s) r.history)
+  pub offline : AreUnplugged s.geometry (space_reported s r) r.plugged
+  pub no_unplugged : (frame : ℕ) → is_frame_in s.geometry (space_reported s r).offline frame ≡ true → out_for (space_reported s r) frame ≡ None
+
+-- The host's commands are reported in their order, each with what the device gave by the actions before; the device's
+-- actions are those of the commands, each response is its answer by the actions before it, and the driver put the
+-- blocks online that were plugged, and no others. The plugged blocks are those that the device's actions leave.
+pub record AreHostAndDeviceTold (s : Scenario) (r : Report) : Type 0 where
+  pub lines : r.host ≡ host_runs s.host (host_lines s.geometry (device_start s) 0 s.host)
+  pub device : r.device_journal ≡ host_actions s.geometry (device_start s) s.host
+  pub answered : AreAnswered s.geometry (device_start s) r.device_journal
+  pub driver : actions_of 0 r.space_journal ≡ host_onlines s.geometry (device_start s) s.host
+  pub plugged : r.plugged ≡ block_list (device_reported s r).plugged
+
+-- ---- the report of a scenario
+
+pub record IsReportOf (s : Scenario) (r : Report) : Type 0 where
+  pub calls : AreCallsTold s r
+  pub frames : AreFramesTold s r
+  pub host : AreHostAndDeviceTold s r
