@@ -4,3 +4,4 @@ pub mod Answers
 pub mod Journals
 pub mod HandParts
 pub mod Busy
+pub mod NamedBlocks

@@ -29,6 +29,15 @@ impl BlockHand {
     ghost use Rattle.std.specs.List.{range_with_len};
     ghost use Rattle.evac_model.specs.DeviceBlocks.{device_blocks};
 
+    /// A plain range: `n` blocks from `first` on, with no room for others. It takes no memory.
+    pub fn range(first: BlockNo, n: u32) -> BlockHand
+        ensures { result.blocks ≡ range_with_len first.0 n }
+    {
+        BlockHand {
+            kind: HandKind::Range { first, n },
+        }
+    }
+
     /// A hand with room for each block of the machine, and with `n` blocks from `first` on, one bit
     /// for each block. It fails where there is no memory for the bits.
     pub fn new(alloc: Global, g: Geometry, first: BlockNo, n: u32) -> Result<BlockHand, OutOfMemory>
@@ -62,9 +71,7 @@ impl Held for BlockHand {
             }
             HandKind::Range { first: _, n: _ } => {}
         }
-        BlockHand {
-            kind: HandKind::Range { first, n },
-        }
+        BlockHand::range(first, n)
     }
 
     fn merge(&mut self, other: BlockHand) {

@@ -22,4 +22,4 @@ pub use evac_model::{BlockNo, Config, DeviceAct, DeviceAction, Geometry, OutOfMe
 pub use held::Held;
 pub use laws::{busy_has_a_cause, sure_backing_is_never_busy};
 pub use range::range_at;
-pub use requested::{plugged_by, requested_blocks};
+pub use requested::{named_range, plugged_by, requested_blocks};

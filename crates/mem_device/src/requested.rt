@@ -1,11 +1,15 @@
 //! Which blocks a request names, and which of them it plugged.
 
-ghost use Rattle.std.specs.Prelude.{◌≡◌, ◌+◌, ◌≤◌};
+ghost use Rattle.std.specs.Prelude.{◌≡◌, ◌≢◌, ◌+◌, ◌≤◌, Some};
+ghost use Rattle.std.specs.List.{range_with_len};
+ghost use Rattle.evac_model.specs.declared.device.Request.{Request};
+ghost use Rattle.mem_device.specs.Answering.{named_blocks};
 ghost use Rattle.evac_model.specs.DeviceBlocks.{device_blocks};
 ghost use Rattle.evac_model.specs.DeviceAnswer.{request_in};
 ghost use Rattle.evac_model.specs.HostCommands.{range_blocks, requested_blocks, plugged_by};
 
-use crate::range::range_at;
+use crate::range::{is_plugged, range_at};
+use block_map::BlockMap;
 use evac_model::{BlockNo, Geometry, Request, Response};
 use mem_codec::read_request;
 
@@ -34,6 +38,23 @@ pub fn requested_blocks(g: &Geometry, bytes: &[u8]) -> (BlockNo, u32)
         Ok(Request::UnplugAll) => (BlockNo(0), g.device_blocks()),
         Ok(Request::State { addr, count }) => range_blocks(g, addr, count),
         Err(_) => (BlockNo(0), 0),
+    }
+}
+
+/// The first of the plugged blocks that an UNPLUG names, and how many they are: those of its range, where it is
+/// good and all plugged, and else none. Any other request names none, but an UNPLUG_ALL, which names all that
+/// are plugged.
+pub fn named_range(map: &BlockMap, bytes: &[u8]) -> (BlockNo, u32)
+    requires { request_in bytes.now ≢ Some Request.UnplugAll }
+    ensures named { range_with_len result.0.0 result.1 ≡ named_blocks map.now.sizes map.now.plugged (request_in bytes.now) }
+    ensures inside { result.0.0 + result.1 ≤ device_blocks map.now.sizes }
+{
+    let Ok(Request::Unplug { addr, count }) = read_request(bytes) else {
+        return (BlockNo(0), 0);
+    };
+    match range_at(&map.geometry(), addr, count) {
+        Some(first) if is_plugged(map, first, count as u32) => (first, count as u32),
+        _ => (BlockNo(0), 0),
     }
 }
 

@@ -52,6 +52,19 @@ left_next k next start journal journal2 used owed room used2 owed2 room2 a v e h
     let P : JournaledSpace → Type 0 = λ x. IsLeftBy x next used2 owed2 room2 in
     subst P (sym (journaled-with_action k next start journal journal2 a v e en ej)) (left_behind v k next used owed room used2 owed2 room2 a h en here owed_for enough)
 
+-- the invariant where only the room for the journal changed
+pub left_same : (k next : KeptSpace) (start : List StartPage) (journal journal2 : List SpaceAction) (used owed room used2 room2 : ℕ) → IsLeftBy (journaled k start journal) k used owed room → next ≡ k → journal2 ≡ journal → used2 + owed ≤ room2 → IsLeftBy (journaled next start journal2) next used2 owed room2
+left_same k next start journal journal2 used owed room used2 room2 h en ej enough =
+    let P : KeptSpace → List SpaceAction → Type 0 = λ x xs. IsLeftBy (journaled x start xs) x used2 owed room2 in
+    subst (λ (x : KeptSpace). P x journal2) (sym en) (subst (P k) (sym ej) (record {
+      within = h.within;
+      space = h.space;
+      left = h.left;
+      possible = h.possible;
+      owed_for = h.owed_for;
+      enough = enough;
+    }))
+
 -- a space that is opened
 pub left_at_start : (k : KeptSpace) (s : Sizes) (online : Kind) (start pages : List StartPage) (journal : List SpaceAction) (used owed room : ℕ) → IsWithinLimits s → AreStartFrames s online start → k ≡ record { sizes = s; online = online; state = space_at_start s start } → pages ≡ start → journal ≡ [] → used ≡ 0 → IsOwed k.state owed → owed ≤ room → IsLeftBy (journaled k pages journal) k used owed room
 left_at_start k s online start pages journal used owed room within starts e ep ej eu owed_for enough =

@@ -236,7 +236,7 @@ is_in-offline k r m held bits b h = elim (cases_lt b k.sizes.managed) [
 ]
 
 -- a search that found no frame out
-no_first : (frames : List (ℕ × Out)) → first_page frames ≡ None → frames ≡ []
+pub no_first : (frames : List (ℕ × Out)) → first_page frames ≡ None → frames ≡ []
 no_first [] e = refl
 no_first (f ∷ rest) e = absurd (cc e)
 

@@ -7,6 +7,7 @@ pub mod KeptSpaces
 pub mod Opens
 pub mod Journals
 pub mod Refused
+pub mod NextOut
 pub mod Puts
 pub mod Spaces
 pub mod Choices
@@ -14,3 +15,4 @@ pub mod Leases
 pub mod LeasesKept
 pub mod SpaceLaws
 pub mod JournalsKept
+pub mod MoveLeases

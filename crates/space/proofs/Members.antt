@@ -85,7 +85,7 @@ distinct_cond : (b : Bool) (x : ℕ) (xs : List ℕ) → is_in x xs ≡ false �
 distinct_cond true x xs none h = (none, h)
 distinct_cond false x xs none h = h
 
-distinct-filter : (t : ℕ → Bool) (xs : List ℕ) → AreDistinct xs → AreDistinct (filter t xs)
+pub distinct-filter : (t : ℕ → Bool) (xs : List ℕ) → AreDistinct xs → AreDistinct (filter t xs)
 distinct-filter t [] h = tt
 distinct-filter t (x ∷ xs) h =
     distinct_cond (t x) x (filter t xs) (is_in-filter t x xs ∙ and_left _ _ h.0) (distinct-filter t xs h.1)

@@ -75,7 +75,7 @@ impl Kept {
     ghost use Rattle.page_blocks.specs.Marks.{is_unmovable, isolation, page_and_kind};
     ghost use Rattle.space.specs.KeptSpace.{behind};
     ghost use Rattle.space.specs.SpaceInside.{IsSpace};
-    ghost use Rattle.space.specs.Refusals.{frames_out_of, emptiness};
+    ghost use Rattle.space.specs.Refusals.{frames_out_of, next_out, emptiness};
     ghost use Rattle.evac_model.specs.declared.space.SpaceAction.{SpaceAction};
 
     /// The sizes of the machine.
@@ -92,6 +92,21 @@ impl Kept {
         ensures { result ≡ page_and_kind (out_for self.now.state frame.0) }
     {
         self.marks.out_at(frame)
+    }
+
+    /// The first frame of a managed block that is out, and its page, or the first one behind a frame.
+    pub(crate) fn out_after(&self, b: BlockNo, after: Option<FrameNo>) -> Option<(FrameNo, PageNo)>
+        requires { b.0 < self.now.sizes.managed }
+        ensures { result ≡ next_out self.now.sizes self.now.state b.0 after }
+    {
+        // the machine's limits bound its frames
+        let g = self.marks.geometry();
+        if let Some(frame) = after {
+            if frame.0 >= g.frames() {
+                return None;
+            }
+        }
+        self.marks.out_after(b, after)
     }
 
     /// Whether a block is isolated.

@@ -4,9 +4,10 @@ ghost use Rattle.std.specs.Prelude.{◌≡◌};
 ghost use Rattle.evac_model.specs.declared.space.IsolateFault.{IsolateFault};
 
 use crate::kept::Kept;
+use crate::move_lease_fault::MoveLeaseFault;
 use evac_model::{
-    BlockNo, FrameNo, Geometry, IsolateFault, Kind, LeaseFault, NotEmpty, OutOfMemory, PageNo,
-    SpaceAction, StartPage, Unmovable,
+    BlockNo, FrameNo, Geometry, IsolateFault, Kind, LeaseFault, MoveLease, NotEmpty, OutOfMemory,
+    PageNo, SpaceAction, StartPage, Unmovable,
 };
 use std::alloc::Global;
 use std::marker::Model;
@@ -54,17 +55,21 @@ fn unmovable(refused: Unmovable) -> IsolateFault
 }
 
 impl Space {
-    ghost use Rattle.std.specs.Prelude.{◌≡◌, ◌≢◌, ℕ, ◌<◌, ◌≤◌, [], true, false, filter, length, None, Err, IfOk, IfErr, OnOk, OnErr};
+    ghost use Rattle.std.specs.Prelude.{◌≡◌, ◌≢◌, ℕ, ◌<◌, ◌≤◌, [], true, false, length, Option, None, Some, Ok, Err, IfOk, IfErr, OnOk, OnErr};
     ghost use Rattle.evac_model.specs.Geometry.{IsWithinLimits, frame_count};
     ghost use Rattle.evac_model.specs.Numbers.{is_in};
     ghost use Rattle.evac_model.specs.SpaceJournal.{space_at_start, out_for, IsPossible, IsPossibleJournal};
     ghost use Rattle.evac_model.specs.declared.space.SpaceAction.{SpaceAction};
-    ghost use Rattle.evac_model.specs.declared.space.IsolateFault.{IsolateFault};
+    ghost use Rattle.evac_model.specs.declared.evacuation.MoveLease.{MoveLease};
+    ghost use Rattle.evac_model.specs.declared.names.FrameNo.{FrameNo};
+    ghost use Rattle.evac_model.specs.declared.names.Kind.{Kind};
+    ghost use Rattle.evac_model.specs.declared.names.PageNo.{PageNo};
     ghost use Rattle.evac_model.specs.declared.space.LeaseFault.{LeaseFault};
-    ghost use Rattle.page_blocks.specs.Marks.{page_and_kind, is_unmovable};
+    ghost use Rattle.page_blocks.specs.Marks.{page_and_kind};
+    ghost use Rattle.space.specs.declared.move_lease_fault.MoveLeaseFault.{MoveLeaseFault};
     ghost use Rattle.space.specs.JournaledSpace.{space_state, with_action, IsLeasableFor, AreStartFrames};
     ghost use Rattle.space.specs.SpaceInside.{IsSpace};
-    ghost use Rattle.space.specs.Refusals.{frames_out_of, IsFirstOf, emptiness};
+    ghost use Rattle.space.specs.Refusals.{frames_out_of, first_unmovable, next_out, IsRefusedBy, emptiness};
 
     /// Opens the space of a machine: the frames of the start pages are out, the blocks that aren't
     /// plugged are offline, and all other frames are free. It looks at each frame a few times.
@@ -127,6 +132,15 @@ impl Space {
         self.kept.out_at(frame)
     }
 
+    /// The first frame of a managed block that is out, and the page that it is out for; where a frame is given,
+    /// the first one of the block behind it. It looks at the frames of the block.
+    pub fn out_after(&self, b: BlockNo, after: Option<FrameNo>) -> Option<(FrameNo, PageNo)>
+        requires { b.0 < self.now.sizes.managed }
+        ensures { result ≡ next_out self.now.sizes (space_state self.now) b.0 after }
+    {
+        self.kept.out_after(b, after)
+    }
+
     /// Whether a block is isolated. A block that isn't a managed one is not.
     pub fn is_isolated(&self, b: BlockNo) -> bool
         ensures { result ≡ is_in b.0 (space_state self.now).isolated }
@@ -175,6 +189,53 @@ impl Space {
         }
     }
 
+    /// Leases a target to the driver for the page of the first frame that is out in an isolated block,
+    /// or of the first one behind a frame, after Linux's `alloc_migration_target`. It is the frame that the
+    /// rules of the journal choose for a movable page, the only kind in an isolated block. `None` comes where
+    /// no such frame is out. It fails where no frame that takes the page is free, which says how long the
+    /// journal was then, or where there is no memory. It looks at the frames of the block.
+    pub fn lease_for_move(
+        &mut self,
+        b: BlockNo,
+        after: Option<FrameNo>,
+    ) -> Result<Option<MoveLease>, MoveLeaseFault>
+        requires { is_in b.0 (space_state self.old).isolated ≡ true }
+        ensures next { (lease : MoveLease) → result ≡ Ok (Some lease) → next_out self.old.sizes (space_state self.old) b.0 after ≡ Some (lease.from, lease.page) }
+        ensures leased { (lease : MoveLease) → result ≡ Ok (Some lease) → self.new ≡ with_action (SpaceAction.MoveLease lease.target lease.page) self.old }
+        ensures possible { (lease : MoveLease) → result ≡ Ok (Some lease) → IsPossible self.old.sizes self.old.online (space_state self.old) (SpaceAction.MoveLease lease.target lease.page) }
+        ensures free { (lease : MoveLease) → result ≡ Ok (Some lease) → IsLeasableFor self.old Kind.Movable lease.target.0 }
+
+        ensures none { result ≡ Ok None → next_out self.old.sizes (space_state self.old) b.0 after ≡ None }
+        ensures same { result ≡ Ok None → self.new ≡ self.old }
+
+        ensures no_target { (from : FrameNo) (page : PageNo) (at : ℕ) → result ≡ Err (MoveLeaseFault.NoTarget from page at) → next_out self.old.sizes (space_state self.old) b.0 after ≡ Some (from, page) }
+        ensures at { (from : FrameNo) (page : PageNo) (at : ℕ) → result ≡ Err (MoveLeaseFault.NoTarget from page at) → at ≡ length self.old.journal }
+        ensures none_free { (from : FrameNo) (page : PageNo) (at frame : ℕ) → result ≡ Err (MoveLeaseFault.NoTarget from page at) → ¬ IsLeasableFor self.old Kind.Movable frame }
+        ensures err { OnErr result (self.new ≡ self.old) }
+    {
+        let Some((from, page)) = self.kept.out_after(b, after) else {
+            return Ok(None);
+        };
+        if self.journal.reserve(self.owed + 2).is_err() {
+            return Err(MoveLeaseFault::OutOfMemory);
+        }
+        match self.kept.lease(0, page, &Kind::Movable) {
+            None => Err(MoveLeaseFault::NoTarget {
+                from,
+                page,
+                at: self.journal.len() as u64,
+            }),
+            Some(target) => {
+                self.owed += 1;
+                self.journal.push_reserved(SpaceAction::MoveLease {
+                    frame: target,
+                    page,
+                });
+                Ok(Some(MoveLease { from, page, target }))
+            }
+        }
+    }
+
     /// Takes a frame back from a caller: the driver, 0, or an owner, 1 to 16. In an isolated block it
     /// is kept aside; else it goes into the caller's cache, and where 8 were there, the one that was
     /// put first is free again. It takes no memory.
@@ -199,7 +260,8 @@ impl Space {
         ensures ok { OnOk result (self.new ≡ with_action (SpaceAction.Isolate b) self.old) }
         ensures possible { OnOk result (IsPossible self.old.sizes self.old.online (space_state self.old) (SpaceAction.Isolate b)) }
 
-        ensures unmovable { IfErr result (IsFirstOf (filter is_unmovable (frames_out_of self.old.sizes (space_state self.old) b.0))) }
+        ensures movable { OnOk result (first_unmovable self.old.sizes (space_state self.old) b.0 ≡ None) }
+        ensures unmovable { IfErr result (IsRefusedBy (first_unmovable self.old.sizes (space_state self.old) b.0)) }
         ensures err { OnErr result (self.new ≡ self.old) }
     {
         if self.journal.reserve(self.owed + 3).is_err() {

@@ -2,18 +2,17 @@
 
 ghost use Rattle.std.specs.Prelude.{◌≡◌, ◌+◌, ◌-◌, ◌^◌, ◌<◌, ◌≤◌, [], None, IfOk, IfSome};
 ghost use Rattle.std.specs.List.{range_with_len};
-ghost use Rattle.evac_model.specs.DeviceAnswer.{request_in, are_plugged};
+ghost use Rattle.evac_model.specs.DeviceAnswer.{request_in};
 ghost use Rattle.mem_device.specs.Answering.{named_blocks};
 ghost use Rattle.mem_device.specs.DeviceView.{device_state};
 
 use crate::small_geometry;
-use block_map::BlockMap;
 use dma_listeners::{Failed, Refused};
-use evac_model::{NumberList, Request, RequestBytes, STATE_PLUGGED};
+use evac_model::{NumberList, Request, RequestBytes};
 use mem_codec::read_request;
 use mem_device::{
     Backing, BlockHand, BlockNo, Config, Device, DeviceAct, Held, Listener, Response, SizeFault,
-    Slate, plugged_by, range_at, requested_blocks,
+    Slate, named_range, plugged_by, requested_blocks,
 };
 use std::alloc::{AllocError, Global};
 use std::process::Abort;
@@ -78,37 +77,15 @@ fn request(kind: u8, addr: u64, count: u16) -> [u8; 24] {
     bytes
 }
 
-// Whether all blocks of a range, at least one, are plugged.
-fn are_all_plugged(map: &BlockMap, first: BlockNo, n: u32) -> bool
-    requires { 0 < n }
-    ensures { result ≡ are_plugged map.now.plugged first.0 n }
-{
-    map.state(first, n) == STATE_PLUGGED
-}
-
 // The range of the plugged blocks that a request names; None where they may be no range.
 fn named<B: Backing>(device: &Device<Deaf, B, BlockHand>, bytes: &[u8]) -> Option<(BlockNo, u32)>
     ensures blocks { IfSome result (λ r. range_with_len r.0.0 r.1 ≡ named_blocks device.now.sizes (device_state device.now).plugged (request_in bytes.now)) }
     ensures inside { IfSome result (λ r. r.0.0 + r.1 ≤ device.now.sizes.managed) }
 {
-    let map = device.plugged();
-    let g = map.geometry();
-    match read_request(bytes) {
-        Ok(Request::Unplug { addr, count }) => match range_at(&g, addr, count) {
-            Some(first) => {
-                if are_all_plugged(map, first, count as u32) {
-                    Some((first, count as u32))
-                } else {
-                    Some((BlockNo(0), 0))
-                }
-            }
-            None => Some((BlockNo(0), 0)),
-        },
-        Ok(Request::UnplugAll) => None,
-        Ok(Request::Plug { addr: _, count: _ }) => Some((BlockNo(0), 0)),
-        Ok(Request::State { addr: _, count: _ }) => Some((BlockNo(0), 0)),
-        Err(_) => Some((BlockNo(0), 0)),
+    if let Ok(Request::UnplugAll) = read_request(bytes) {
+        return None;
     }
+    Some(named_range(device.plugged(), bytes))
 }
 
 // What the device answers to any request but an UNPLUG_ALL.
@@ -316,6 +293,32 @@ fn blocks_named_and_plugged(rt: HostRuntime) -> Result<(), Fail> {
     }
     assert_eq!(rt; plugged_by(&g, &request(0, 320, 1), &ACK), (BlockNo(3), 1));
     assert_eq!(rt; requested_blocks(&g, &[0; 23]), (BlockNo(0), 0));
+    Ok(())
+}
+
+// Blocks 0 to 2 are plugged, and 3 isn't.
+#[test]
+fn plugged_blocks_named(rt: HostRuntime) -> Result<(), Fail> {
+    let device = small(rt.alloc(), 3, &[])?;
+    let cases = [
+        (1, 192, 2, (1, 2)),
+        (1, 128, 3, (0, 3)),
+        (1, 256, 1, (2, 1)),
+        (1, 256, 2, (0, 0)),
+        (1, 320, 1, (0, 0)),
+        (1, 160, 1, (0, 0)),
+        (1, 192, 0, (0, 0)),
+        (0, 320, 1, (0, 0)),
+        (0, 128, 1, (0, 0)),
+        (3, 128, 3, (0, 0)),
+        (4, 128, 1, (0, 0)),
+    ];
+    for (kind, addr, count, (first, n)) in cases {
+        let got = named(&device, &request(kind, addr, count));
+        assert_eq!(rt; got, Some((BlockNo(first), n)), "{kind} {addr} {count}");
+    }
+    assert_eq!(rt; named(&device, &[1; 23]), Some((BlockNo(0), 0)));
+    assert_eq!(rt; named(&device, &UNPLUG_ALL), None);
     Ok(())
 }
 

@@ -2,8 +2,8 @@
 
 use crate::small_geometry;
 use space::{
-    BlockNo, FrameNo, Geometry, IsolateFault, Kind, LeaseFault, NotEmpty, OutOfMemory, PageNo,
-    Space, StartPage,
+    BlockNo, FrameNo, Geometry, IsolateFault, Kind, LeaseFault, MoveLeaseFault, NotEmpty,
+    OutOfMemory, PageNo, Space, SpaceAction, StartPage,
 };
 use std::alloc::Global;
 use std::process::Abort;
@@ -14,11 +14,14 @@ fn open_free(alloc: Global, geometry: Geometry, online: Kind) -> Result<Space, O
     Space::open(alloc, geometry, online, &[])
 }
 
-/// What is asked of a space: the caller, the page and the kind of a lease; the caller and the frame of
-/// a return; the block of the others.
+/// What is asked of a space: the caller, the page and the kind of a lease; the block of a move lease and of a
+/// search for a frame that is out, and the frame behind which they look; the caller and the frame of a return; the
+/// block of the others.
 #[derive(Clone, Copy, Debug)]
 enum Ask {
     Lease(u32, u32, Kind),
+    MoveLease(u32, Option<u32>),
+    Out(u32, Option<u32>),
     Return(u32, u32),
     Isolate(u32),
     Undo(u32),
@@ -26,12 +29,16 @@ enum Ask {
     Online(u32),
 }
 
-/// What it answers.
+/// What it answers: a move lease has the frame, the page and the target.
 #[derive(Clone, Copy, Debug, PartialEq, Eq)]
 enum Reply {
     Done,
     Frame(u32),
     NoFrame(u64),
+    Moved(u32, u32, u32),
+    NoTarget(u32, u32, u64),
+    Out(u32, u32),
+    NoneOut,
     Unmovable(u32, u32),
     NotEmpty(u32),
     OutOfMemory,
@@ -44,6 +51,24 @@ fn lease(rt: &impl Abort, space: &mut Space, who: u32, page: u32, kind: Kind) ->
         Ok(frame) => Reply::Frame(frame.0),
         Err(LeaseFault::NoFrame { at }) => Reply::NoFrame(at),
         Err(LeaseFault::OutOfMemory) => Reply::OutOfMemory,
+    }
+}
+
+fn move_lease(rt: &impl Abort, space: &mut Space, block: u32, after: Option<u32>) -> Reply {
+    assert!(rt; space.is_isolated(BlockNo(block)));
+    match space.lease_for_move(BlockNo(block), after.map(FrameNo)) {
+        Ok(Some(lease)) => Reply::Moved(lease.from.0, lease.page.0, lease.target.0),
+        Ok(None) => Reply::NoneOut,
+        Err(MoveLeaseFault::NoTarget { from, page, at }) => Reply::NoTarget(from.0, page.0, at),
+        Err(MoveLeaseFault::OutOfMemory) => Reply::OutOfMemory,
+    }
+}
+
+fn out_after(rt: &impl Abort, space: &Space, block: u32, after: Option<u32>) -> Reply {
+    assert!(rt; block < space.geometry().managed());
+    match space.out_after(BlockNo(block), after.map(FrameNo)) {
+        Some((frame, page)) => Reply::Out(frame.0, page.0),
+        None => Reply::NoneOut,
     }
 }
 
@@ -89,6 +114,8 @@ fn online(rt: &impl Abort, space: &mut Space, block: u32) -> Reply {
 fn answer(rt: &impl Abort, space: &mut Space, ask: Ask) -> Reply {
     match ask {
         Ask::Lease(who, page, kind) => lease(rt, space, who, page, kind),
+        Ask::MoveLease(block, after) => move_lease(rt, space, block, after),
+        Ask::Out(block, after) => out_after(rt, space, block, after),
         Ask::Return(who, frame) => give_back(rt, space, who, frame),
         Ask::Isolate(block) => isolate(rt, space, block),
         Ask::Undo(block) => undo(rt, space, block),
@@ -230,6 +257,69 @@ fn isolation(rt: HostRuntime) -> Result<(), Fail> {
     );
     assert_eq!(rt; space.is_isolated(BlockNo(0)), false);
     assert_eq!(rt; space.journal().len(), 22);
+    Ok(())
+}
+
+// The same machine: targets for the pages of isolated blocks, until no frame is free.
+#[test]
+fn move_leases(rt: HostRuntime) -> Result<(), Fail> {
+    let geometry = small_geometry(4)?;
+    let mut space = open_free(rt.alloc(), geometry, Kind::Movable)?;
+    for frame in 0..9 {
+        assert_eq!(rt;
+            lease(&rt, &mut space, 1, 0, Kind::Movable),
+            Reply::Frame(frame)
+        );
+    }
+    expect_answers(
+        &rt,
+        &mut space,
+        &[
+            // frames 8 and 9 of block 0 are out, and 10 and 11 in the cache
+            (Ask::Lease(1, 1, Kind::Movable), Reply::Frame(9)),
+            (Ask::Isolate(0), Reply::Done),
+            // the driver's cache is empty: it gets the run of 4 frames from 12 on
+            (Ask::MoveLease(0, None), Reply::Moved(8, 0, 12)),
+            (Ask::MoveLease(0, Some(8)), Reply::Moved(9, 1, 13)),
+            (Ask::MoveLease(0, Some(9)), Reply::NoneOut),
+            // a frame of another block, and a number that is no frame's
+            (Ask::MoveLease(0, Some(3)), Reply::Moved(8, 0, 14)),
+            (Ask::MoveLease(0, Some(12)), Reply::NoneOut),
+            (Ask::MoveLease(0, Some(4_294_967_295)), Reply::NoneOut),
+            (Ask::Out(0, None), Reply::Out(8, 0)),
+            (Ask::Out(0, Some(8)), Reply::Out(9, 1)),
+            (Ask::Out(0, Some(9)), Reply::NoneOut),
+            (Ask::Out(1, Some(12)), Reply::Out(13, 1)),
+            (Ask::Out(2, None), Reply::NoneOut),
+            // 15 leaves the driver's cache, which gets the run from 16 on
+            (Ask::Isolate(1), Reply::Done),
+            (Ask::MoveLease(1, Some(12)), Reply::Moved(13, 1, 16)),
+            (Ask::Lease(0, 2, Kind::Movable), Reply::Frame(17)),
+            (Ask::Lease(0, 2, Kind::Movable), Reply::Frame(18)),
+            (Ask::Lease(0, 2, Kind::Movable), Reply::Frame(19)),
+            (Ask::Lease(0, 2, Kind::Movable), Reply::Frame(20)),
+            (Ask::Lease(0, 2, Kind::Movable), Reply::Frame(21)),
+            (Ask::Lease(0, 2, Kind::Movable), Reply::Frame(22)),
+            (Ask::Lease(0, 2, Kind::Movable), Reply::Frame(23)),
+            // 10, 11 and 15 are kept aside
+            (Ask::MoveLease(0, None), Reply::NoTarget(8, 0, 23)),
+            (Ask::MoveLease(0, Some(8)), Reply::NoTarget(9, 1, 23)),
+            (Ask::MoveLease(0, Some(9)), Reply::NoneOut),
+            // a frame of another caller's cache
+            (Ask::Return(5, 3), Reply::Done),
+            (Ask::MoveLease(0, Some(8)), Reply::Moved(9, 1, 3)),
+        ],
+    );
+    assert_eq!(rt; space.journal().len(), 25);
+    let Some(action) = space.journal().get(12) else {
+        panic!(rt; "no thirteenth action");
+    };
+    let want = SpaceAction::MoveLease {
+        frame: FrameNo(13),
+        page: PageNo(1),
+    };
+    assert_eq!(rt; *action, want);
+    assert_eq!(rt; space.out_at(FrameNo(13)), Some((PageNo(1), Kind::Movable)));
     Ok(())
 }
 
