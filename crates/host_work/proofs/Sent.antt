@@ -1,0 +1,42 @@
+-- A request that unplugs nothing empties no block and puts the blocks online that it plugged.
+use Rattle.std.proofs.Common.{◌≡◌, ◌≢◌, ℕ, false, List, [], ◌∷◌, ◌++◌, reverse, refl, ap, subst, Option, Some, None}
+use Rattle.evac_model.specs.declared.device.Request.{Request}
+use Rattle.evac_model.specs.declared.device.Request.TheVariants.{Plug, Unplug, UnplugAll, State}
+use Rattle.evac_model.specs.declared.device.Response.{Response}
+use Rattle.evac_model.specs.declared.device.Response.TheVariants.{Ack, Nack, Busy, Error}
+use Rattle.evac_model.specs.declared.space.SpaceAction.{SpaceAction}
+use Rattle.evac_model.specs.DeviceAnswer.{DeviceState}
+use Rattle.evac_model.specs.Geometry.{Sizes}
+use Rattle.evac_model.specs.HostCommands.{unplugs, plugged_by, onlines_of}
+use Rattle.mem_device.proofs.NamedBlocks.{named_none}
+use Rattle.host_work.specs.Requests.{Evacuates, blocks_to_empty, blocks_back, put_online, AreTakenAway}
+
+-- a list with an element in it isn't empty
+pub some_inside : {X : Type 0} (front : List X) (x : X) (behind : List X) → [] ≢ front ++ x ∷ behind
+some_inside [] x behind is = absurd (cc)
+some_inside (y ∷ front) x behind is = absurd (cc)
+
+module _ (s : Sizes) (d : DeviceState) (request : Option Request) (built : unplugs request ≡ false) where
+  pub nothing_to_empty : blocks_to_empty s d request ≡ []
+  nothing_to_empty = ap (λ (l : List ℕ). reverse l) (named_none s d.plugged request built)
+
+  pub nothing_taken_away : (E : Evacuates) (actions : List SpaceAction) → AreTakenAway E (blocks_to_empty s d request) actions → actions ≡ []
+  nothing_taken_away E actions away = subst (λ (l : List ℕ). AreTakenAway E l actions) nothing_to_empty away
+
+pub back_plugged : (s : Sizes) (d : DeviceState) (request : Option Request) (response : Response) → unplugs request ≡ false → put_online (blocks_back s d request response) ≡ onlines_of (plugged_by s request response)
+back_plugged s d request (Ack state) built = refl
+back_plugged s d None Nack built = refl
+back_plugged s d None Busy built = refl
+back_plugged s d None Error built = refl
+back_plugged s d (Some (Plug addr count)) Nack built = refl
+back_plugged s d (Some (Plug addr count)) Busy built = refl
+back_plugged s d (Some (Plug addr count)) Error built = refl
+back_plugged s d (Some (Unplug addr count)) Nack built = absurd (cc)
+back_plugged s d (Some (Unplug addr count)) Busy built = absurd (cc)
+back_plugged s d (Some (Unplug addr count)) Error built = absurd (cc)
+back_plugged s d (Some UnplugAll) Nack built = absurd (cc)
+back_plugged s d (Some UnplugAll) Busy built = absurd (cc)
+back_plugged s d (Some UnplugAll) Error built = absurd (cc)
+back_plugged s d (Some (State addr count)) Nack built = refl
+back_plugged s d (Some (State addr count)) Busy built = refl
+back_plugged s d (Some (State addr count)) Error built = refl

@@ -1,0 +1,4 @@
+pub mod Evacuated
+pub mod Requests
+pub mod Commands
+pub mod Examples

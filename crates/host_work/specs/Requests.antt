@@ -1,0 +1,85 @@
+-- What a request of the host does to the frame space and to the memory device: the blocks that it unplugs are emptied
+-- first, from the highest down.
+use Rattle.std.specs.Prelude.{◌≡◌, ℕ, List, [], ◌∷◌, ◌++◌, map, reverse, Option, None, Some}
+use Rattle.evac_model.specs.declared.device.Request.{Request}
+use Rattle.evac_model.specs.declared.device.Response.{Response}
+use Rattle.evac_model.specs.declared.device.Response.TheVariants.{Ack, Nack, Busy, Error}
+use Rattle.evac_model.specs.declared.device_journal.DeviceAct.TheVariants as acts
+use Rattle.evac_model.specs.declared.device_journal.DeviceAction.{DeviceAction}
+use Rattle.evac_model.specs.declared.evacuation.EvacCause.{EvacCause}
+use Rattle.evac_model.specs.declared.names.BlockNo.{BlockNo}
+use Rattle.evac_model.specs.declared.space.SpaceAction.{SpaceAction}
+use Rattle.evac_model.specs.declared.space.SpaceAction.TheVariants as space
+use Rattle.evac_model.specs.DeviceAnswer.{DeviceState, request_in}
+use Rattle.evac_model.specs.Geometry.{Sizes}
+use Rattle.evac_model.specs.HostCommands.{blocks_of, plugged_by}
+use Rattle.mem_device.specs.Answering.{named_blocks}
+use Rattle.resize.specs.declared.tried.Tried.{Tried}
+use Rattle.resize.specs.declared.tried.TriedResult.TheVariants as results
+
+-- What an evacuation of a block with that end may have done to the frame space. It is `WasEvacuated` for one mover that
+-- moves page by page; other movers have other rounds.
+abbrev pub Evacuates : Type 1
+Evacuates = BlockNo → Option EvacCause → List SpaceAction → Type 0
+
+abbrev pub block_no : ℕ → BlockNo
+block_no block = record { 0 = block }
+
+-- ---- blocks
+
+-- the blocks that are emptied before a request is sent, in order: the plugged ones that an UNPLUG of a good range that is
+-- all plugged, or an UNPLUG_ALL, names
+abbrev pub blocks_to_empty : Sizes → DeviceState → Option Request → List ℕ
+blocks_to_empty s d request = reverse (named_blocks s d.plugged request)
+
+-- the blocks that are put online behind an answer, rising: those that the request plugged, or didn't unplug
+abbrev pub blocks_back : Sizes → DeviceState → Option Request → Response → List ℕ
+blocks_back s d request (Ack state) = blocks_of (plugged_by s request (Ack state))
+blocks_back s d request Nack = named_blocks s d.plugged request
+blocks_back s d request Busy = named_blocks s d.plugged request
+blocks_back s d request Error = named_blocks s d.plugged request
+
+abbrev pub put_online : List ℕ → List SpaceAction
+put_online blocks = map (λ b. space.Online (block_no b)) blocks
+
+-- the blocks were emptied and taken away, one after another
+abbrev pub AreTakenAway : Evacuates → List ℕ → List SpaceAction → Type 0
+AreTakenAway E [] actions = actions ≡ []
+AreTakenAway E (b ∷ blocks) actions =
+    (evacuation : List SpaceAction) × (rest : List SpaceAction) × (actions ≡ evacuation ++ space.Offline (block_no b) ∷ rest)
+    × E (block_no b) None evacuation × AreTakenAway E blocks rest
+
+-- ---- what is reported of them
+
+abbrev pub emptied_lines : List ℕ → List Tried
+emptied_lines blocks = map (λ b. record { block = block_no b; result = results.Emptied }) blocks
+
+abbrev pub failed_line : ℕ → EvacCause → Tried
+failed_line block cause = record { block = block_no block; result = results.Failed cause }
+
+-- ---- a request
+
+-- It was sent once all its blocks were emptied and taken away, and was answered so. What it plugged or didn't unplug was put
+-- online.
+pub record WasSent (E : Evacuates) (s : Sizes) (d : DeviceState) (bytes : List ℕ) (response : Response) (lines : List Tried) (actions : List SpaceAction) (device : List DeviceAction) : Type 0 where
+  pub emptying : List SpaceAction
+  pub taken_away : AreTakenAway E (blocks_to_empty s d (request_in bytes)) emptying
+  pub made : actions ≡ emptying ++ put_online (blocks_back s d (request_in bytes) response)
+  pub sent : map (λ a. a.act) device ≡ acts.Request bytes response ∷ []
+  pub tried : lines ≡ emptied_lines (blocks_to_empty s d (request_in bytes))
+
+-- It wasn't sent: one of its blocks couldn't be emptied, for that cause. Those before it, which had been emptied and taken
+-- away, were put online again, rising.
+pub record WasNotSent (E : Evacuates) (s : Sizes) (d : DeviceState) (bytes : List ℕ) (lines : List Tried) (actions : List SpaceAction) (device : List DeviceAction) : Type 0 where
+  pub before : List ℕ
+  pub block : ℕ
+  pub behind : List ℕ
+  pub blocks : blocks_to_empty s d (request_in bytes) ≡ before ++ block ∷ behind
+  pub cause : EvacCause
+  pub emptying : List SpaceAction
+  pub taken_away : AreTakenAway E before emptying
+  pub failing : List SpaceAction
+  pub failed : E (block_no block) (Some cause) failing
+  pub made : actions ≡ emptying ++ failing ++ put_online (reverse before)
+  pub nothing_sent : device ≡ []
+  pub tried : lines ≡ emptied_lines before ++ failed_line block cause ∷ []

@@ -1,0 +1,40 @@
+//! Laws of the definitions. Each function has an empty body: its contract is the law.
+
+ghost use Rattle.std.specs.Prelude.{◌≡◌, ◌≢◌, ◌++◌, ℕ, false, List, [], ◌∷◌, map, Option, None, Some};
+ghost use Rattle.evac_model.specs.declared.device.Response.{Response};
+ghost use Rattle.evac_model.specs.declared.device_journal.DeviceAct.{DeviceAct};
+ghost use Rattle.evac_model.specs.declared.device_journal.DeviceAction.{DeviceAction};
+ghost use Rattle.evac_model.specs.declared.evacuation.EvacCause.{EvacCause};
+ghost use Rattle.evac_model.specs.declared.host.HostCommand.{HostCommand};
+ghost use Rattle.evac_model.specs.declared.host.HostResult.{HostResult};
+ghost use Rattle.evac_model.specs.declared.names.BlockNo.{BlockNo};
+ghost use Rattle.evac_model.specs.declared.names.FrameNo.{FrameNo};
+ghost use Rattle.evac_model.specs.declared.names.PageNo.{PageNo};
+ghost use Rattle.evac_model.specs.declared.space.SpaceAction.{SpaceAction};
+ghost use Rattle.evac_model.specs.DeviceAnswer.{DeviceState, request_in};
+ghost use Rattle.evac_model.specs.Geometry.{Sizes};
+ghost use Rattle.evac_model.specs.HostCommands.{unplugs, plugged_by, onlines_of};
+ghost use Rattle.resize.specs.declared.tried.Tried.{Tried};
+ghost use Rattle.host_work.specs.Commands.{IsDoneBy};
+ghost use Rattle.host_work.specs.Evacuated.{WasEvacuated};
+ghost use Rattle.host_work.specs.Examples.{CommandsOfSmall};
+
+/// A request that unplugs nothing is one answer of the device, and then the blocks that it plugged are put online: no
+/// evacuation is made.
+pub fn requests_that_unplug_nothing_are_one_answer()
+    ensures actions { (s : Sizes) (d : DeviceState) (bytes : List ℕ) (response : Response) (actions : List SpaceAction) (device : List DeviceAction) → unplugs (request_in bytes) ≡ false → IsDoneBy (WasEvacuated s) s d (HostCommand.Request bytes) (Some (HostResult.Answered response)) [] actions device → actions ≡ onlines_of (plugged_by s (request_in bytes) response) }
+    ensures sent { (s : Sizes) (d : DeviceState) (bytes : List ℕ) (response : Response) (actions : List SpaceAction) (device : List DeviceAction) → unplugs (request_in bytes) ≡ false → IsDoneBy (WasEvacuated s) s d (HostCommand.Request bytes) (Some (HostResult.Answered response)) [] actions device → map (λ a. a.act) device ≡ DeviceAct.Request bytes response ∷ [] }
+    ensures done { (s : Sizes) (d : DeviceState) (bytes : List ℕ) (response : Response) (device : List DeviceAction) → unplugs (request_in bytes) ≡ false → map (λ a. a.act) device ≡ DeviceAct.Request bytes response ∷ [] → IsDoneBy (WasEvacuated s) s d (HostCommand.Request bytes) (Some (HostResult.Answered response)) [] (onlines_of (plugged_by s (request_in bytes) response)) device }
+    ensures always_sent { (s : Sizes) (d : DeviceState) (bytes : List ℕ) (lines : List Tried) (actions : List SpaceAction) (device : List DeviceAction) → unplugs (request_in bytes) ≡ false → ¬ IsDoneBy (WasEvacuated s) s d (HostCommand.Request bytes) None lines actions device }
+{}
+
+/// An evacuation that fails undoes its isolation last, but for one whose isolation was refused, which does nothing.
+pub fn failed_evacuations_are_undone()
+    ensures undone { (s : Sizes) (b : BlockNo) (cause : EvacCause) (actions : List SpaceAction) → ((frame : FrameNo) (page : PageNo) → cause ≢ EvacCause.Unmovable frame page) → WasEvacuated s b (Some cause) actions → (before : List SpaceAction) × (actions ≡ before ++ SpaceAction.Undo b ∷ []) }
+    ensures refused { (s : Sizes) (b : BlockNo) (frame : FrameNo) (page : PageNo) (actions : List SpaceAction) → WasEvacuated s b (Some (EvacCause.Unmovable frame page)) actions → actions ≡ [] }
+{}
+
+/// Commands of a small machine, worked out by hand: what is reported of each, and what was done.
+pub fn commands_of_a_small_machine()
+    ensures { CommandsOfSmall }
+{}

@@ -1,0 +1,10 @@
+//! What the commands of the host do to the frame space and to the memory device: a relation between what is reported of them
+//! and what was done, in order. A request that unplugs empties its blocks first.
+#![tactic(auto)]
+
+mod laws;
+
+pub use laws::{
+    commands_of_a_small_machine, failed_evacuations_are_undone,
+    requests_that_unplug_nothing_are_one_answer,
+};
