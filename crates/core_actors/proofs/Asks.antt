@@ -1,7 +1,6 @@
 -- Where an owner asks the frame space, and what it never asks.
 use Rattle.std.specs.Prelude.{⊤}
 use Rattle.std.proofs.Common.{◌≡◌, ◌≢◌, ◌↔◌, ℕ, true, false, List, [], ◌∷◌, refl, ap, subst, Some, None}
-use Rattle.evac_model.specs.declared.names.BlockNo.{BlockNo}
 use Rattle.evac_model.specs.declared.names.FrameNo.{FrameNo}
 use Rattle.evac_model.specs.declared.names.Kind.{Kind}
 use Rattle.evac_model.specs.declared.names.PageNo.{PageNo}
@@ -10,9 +9,10 @@ use Rattle.evac_model.specs.declared.call.Call.TheVariants.{Alloc, Free, Read, W
 use Rattle.core_state.specs.declared.step.MoveStep.{MoveStep}
 use Rattle.machine.specs.declared.action.Action.{Action}
 use Rattle.machine.specs.declared.action.Action.TheVariants as actions
+use Rattle.machine.specs.declared.action.BlockCall.{BlockCall}
 use Rattle.machine.specs.declared.action.DeviceCall.{DeviceCall}
 use Rattle.machine.specs.declared.action.SpaceCall.{SpaceCall}
-use Rattle.machine.specs.declared.action.SpaceCall.TheVariants.{Lease, Return, Online}
+use Rattle.machine.specs.declared.action.SpaceCall.TheVariants.{Lease, Return}
 use Rattle.core_actors.specs.declared.place.Place.{Place}
 use Rattle.core_actors.specs.declared.place.Place.TheVariants.{Between, InCall}
 use Rattle.core_actors.specs.declared.place.CallPlace.{CallPlace}
@@ -123,9 +123,8 @@ ended_told a = ended_at a.owner a.cells a.place a.left
 abbrev pub IsOwners : Action → Type 0
 IsOwners (actions.Step step) = ⊤
 IsOwners (actions.Move step) = ⊤
-IsOwners (actions.Space (Lease page kind)) = ⊤
-IsOwners (actions.Space (Return frame)) = ⊤
-IsOwners (actions.Space (Online block)) = ⊥
+IsOwners (actions.Space call) = ⊤
+IsOwners (actions.Block call) = ⊥
 IsOwners (actions.Device call) = ⊥
 IsOwners actions.Ended = ⊥
 
@@ -161,11 +160,11 @@ owners_in a (InCall at) (c ∷ cs) going = place_owners c at
 pub owners_action : (a : OwnerState) (x : Action) → owner_ended a ≡ false → next_action a ≡ x → IsOwners x
 owners_action a x going is = subst IsOwners is (owners_in a a.place a.left going)
 
--- it puts no block online, and asks nothing of the device
-pub no_online : (a : OwnerState) (block : BlockNo) → next_action a ≢ actions.Space (Online block)
-no_online a block is = by_test (owner_ended a)
+-- it asks nothing of a block, and nothing of the device
+pub no_block : (a : OwnerState) (call : BlockCall) → next_action a ≢ actions.Block call
+no_block a call is = by_test (owner_ended a)
     (λ ended. let none = (ended_told a).1 ended in cc)
-    (λ going. owners_action a (actions.Space (Online block)) going is)
+    (λ going. owners_action a (actions.Block call) going is)
 
 pub no_device : (a : OwnerState) (call : DeviceCall) → next_action a ≢ actions.Device call
 no_device a call is = by_test (owner_ended a)

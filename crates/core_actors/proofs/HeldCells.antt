@@ -15,15 +15,6 @@ use Rattle.core_actors.specs.Fits.{PageHeld, IsHeldAs}
 
 -- ---- the cells of a call
 
-pub loads_few : (s : Sizes) (call : Call) → IsCallFor s call → load_count call ≤ 8
-loads_few s (Alloc kind) fits = omega arith
-loads_few s Free fits = omega arith
-loads_few s (Read first count) fits = fits.1
-loads_few s (Write first values) fits = omega arith
-loads_few s (Add cell value) fits = omega arith
-loads_few s Pin fits = omega arith
-loads_few s Unpin fits = omega arith
-
 pub loads_within : (s : Sizes) (call : Call) → IsCallFor s call → first_cell call + load_count call ≤ s.cells
 loads_within s (Alloc kind) fits = omega arith
 loads_within s Free fits = omega arith

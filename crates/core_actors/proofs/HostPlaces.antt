@@ -9,8 +9,8 @@ use Rattle.evac_model.specs.declared.host.HostResult.{HostResult}
 use Rattle.evac_model.specs.Geometry.{Sizes}
 use Rattle.evac_model.specs.HostCommands.{BlockRange, no_blocks}
 use Rattle.machine.specs.declared.action.Action.TheVariants as actions
+use Rattle.machine.specs.declared.action.BlockCall.TheVariants.{Online}
 use Rattle.machine.specs.declared.action.Heard.{Heard}
-use Rattle.machine.specs.declared.action.SpaceCall.TheVariants.{Online}
 use Rattle.core_actors.specs.declared.host.Host.TheInside.{Inside}
 use Rattle.core_actors.specs.HostInside.{host_state, IsHostInside}
 use Rattle.core_actors.specs.Hosts.{HostState, has_none, host_ended, host_action, action_for, host_after, line_after, result_now, with_result, line_with, but_first}
@@ -66,12 +66,12 @@ ended_at s commands at result online given first count none =
 some_left : (n : ℕ) → 1 ≤ n → (n == 0) ≡ false
 some_left n some = grind (arith, nat_tests)
 
-puts_online : (left : List HostCommand) (r : BlockRange) → has_none left ≡ false → 1 ≤ r.count → action_for left r ≡ actions.Space (Online (record { 0 = r.first }))
+puts_online : (left : List HostCommand) (r : BlockRange) → has_none left ≡ false → 1 ≤ r.count → action_for left r ≡ actions.Block (Online (record { 0 = r.first }))
 puts_online [] r going some = absurd (cc)
 puts_online (c ∷ cs) r going some = rw (some_left r.count some) refl
 
-pub online_next : (h : HostState) (first : ℕ) → host_ended h ≡ false → 1 ≤ h.online.count → first ≡ h.online.first → actions.Space (Online (record { 0 = first })) ≡ host_action h
-online_next h first going some is = ap (λ (n : ℕ). actions.Space (Online (record { 0 = n }))) is ∙ sym (puts_online h.left h.online going some)
+pub online_next : (h : HostState) (first : ℕ) → host_ended h ≡ false → 1 ≤ h.online.count → first ≡ h.online.first → actions.Block (Online (record { 0 = first })) ≡ host_action h
+online_next h first going some is = ap (λ (n : ℕ). actions.Block (Online (record { 0 = n }))) is ∙ sym (puts_online h.left h.online going some)
 
 module _ (s : Sizes) (number : ℕ) (result : Option HostResult) (online : BlockRange) (some : 1 ≤ online.count) (heard : Heard) where
   abbrev host : List HostCommand → HostState

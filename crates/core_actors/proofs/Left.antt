@@ -147,6 +147,7 @@ taken_hears (heards.Word word) taken = refl
 taken_hears heards.Nothing taken = absurd (taken refl)
 taken_hears (heards.Leased frame) taken = absurd (taken refl)
 taken_hears (heards.NoFrame at) taken = absurd (taken refl)
+taken_hears (heards.Block heard) taken = absurd (taken refl)
 taken_hears (heards.Device heard) taken = absurd (taken refl)
 
 module _ (cells : ℕ) (c : PageNo × Call) (cs : List (PageNo × Call)) (heard : Heard) where

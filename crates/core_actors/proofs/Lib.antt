@@ -18,4 +18,5 @@ pub mod ScriptRuns
 pub mod OutForCalls
 pub mod HostCounts
 pub mod HostPlaces
+pub mod HostActions
 pub mod MayMake

@@ -1,7 +1,7 @@
 -- The seat of an owner may make the owner's next action, and that of the driver the host's.
 use Rattle.std.proofs.Common.{◌≡◌, ℕ, ◌+◌, ◌≤◌, eqb, Bool, true, false, List, [], ◌∷◌, refl, sym, ap, ◌∙◌, subst, arith, Some, None, IsSome}
 use Rattle.std.specs.List.{AllByRecursion}
-use Rattle.std.proofs.lemmas.Bool.{eqb-false}
+use Rattle.std.proofs.lemmas.Bool.{eqb-false, false≢true}
 use Rattle.std.proofs.lemmas.Option.{get_or_from_slice_get}
 use Rattle.evac_model.specs.declared.names.FrameNo.{FrameNo}
 use Rattle.evac_model.specs.declared.names.Kind.{Kind}
@@ -9,6 +9,7 @@ use Rattle.evac_model.specs.declared.names.PageNo.{PageNo}
 use Rattle.evac_model.specs.declared.call.Call.{Call}
 use Rattle.evac_model.specs.declared.host.HostCommand.{HostCommand}
 use Rattle.evac_model.specs.declared.host.HostCommand.TheVariants as commands
+use Rattle.evac_model.specs.DeviceAnswer.{request_in}
 use Rattle.evac_model.specs.HostCommands.{BlockRange, blocks_of}
 use Rattle.evac_model.specs.Numbers.{is_in}
 use Rattle.evac_model.specs.Scenarios.{IsHostCommand}
@@ -22,10 +23,11 @@ use Rattle.core_state.specs.HandOvers.{IsAtRest}
 use Rattle.core_state.specs.Views.{Has, view_of, hand_frame, spent}
 use Rattle.machine.specs.declared.action.Action.{Action}
 use Rattle.machine.specs.declared.action.Action.TheVariants as actions
-use Rattle.machine.specs.declared.action.SpaceCall.TheVariants.{Lease, Return, Online}
-use Rattle.machine.specs.World.{Setting, World, IsOwnerSeat, HasFrame, space_now, is_held}
+use Rattle.machine.specs.declared.action.SpaceCall.TheVariants.{Lease, Return}
+use Rattle.machine.specs.World.{Setting, World, IsOwnerSeat, HasFrame, space_now, device_now, is_held}
 use Rattle.machine.specs.Consistent.{IsConsistent}
 use Rattle.machine.specs.MayMake.{IsOutForHeld, MayPutOnline, MayAskDevice, MayMake}
+use Rattle.machine.proofs.NamedBlocks.{named_none}
 use Rattle.core_actors.specs.declared.place.Place.{Place}
 use Rattle.core_actors.specs.declared.place.Place.TheVariants.{Between, InCall}
 use Rattle.core_actors.specs.declared.place.CallPlace.{CallPlace}
@@ -37,7 +39,7 @@ use Rattle.core_actors.specs.Actions.{IsStorableAction}
 use Rattle.core_actors.specs.Fits.{as_found, IsZeroed, Fits}
 use Rattle.core_actors.specs.Hosts.{HostState, device_call, action_for, host_action, IsHostUnderWay}
 use Rattle.core_actors.proofs.Cases.{with_move}
-use Rattle.core_actors.proofs.Asks.{first_moves, no_online, no_device}
+use Rattle.core_actors.proofs.Asks.{first_moves, no_block, no_device}
 use Rattle.core_actors.proofs.HeldCells.{held_page_is}
 use Rattle.core_actors.proofs.Allowed.{some_if, next_step_allowed, next_move_allowed, lease_allowed, return_allowed}
 
@@ -89,11 +91,11 @@ module _ (c : Setting) (seat : ℕ) (w : World) (script : List (PageNo × Call))
       (out : (frame : ℕ) → HasFrame w seat frame → IsOutForCall (space_now c w) a.left (frame_owed a.place) frame) where
     may_do : (x : Action) → next_action a ≡ x → MayMake c seat w x
     may_do (actions.Step step) is = record {
-      owner = mine;
+      actor = mine.1;
       allowed = next_step_allowed c.sizes c.opening w.snapshot.words w.snapshot.views seat own script a step has k.sound.pages fits going is (subst IsStorableAction is storable);
     }
     may_do (actions.Move step) is = record {
-      owner = mine;
+      actor = mine.1;
       allowed = next_move_allowed c.sizes c.opening own script a step fits going is;
       out = next_out c w own script a.owner a.cells a.place a.left step fits out is;
     }
@@ -102,8 +104,8 @@ module _ (c : Setting) (seat : ℕ) (w : World) (script : List (PageNo × Call))
         record { owner = mine; page = may.1; rests = may.0 }
     may_do (actions.Space (Return frame)) is =
         let may = return_allowed c.sizes c.opening own script a fits frame is in
-        record { owner = mine; rests = may.0; has = may.1 }
-    may_do (actions.Space (Online block)) is = absurd (no_online a block is)
+        record { actor = mine.1; rests = may.0; has = may.1; out = k.in_hand seat frame.0 mine may.1 }
+    may_do (actions.Block call) is = absurd (no_block a call is)
     may_do (actions.Device call) is = absurd (no_device a call is)
     may_do actions.Ended is = tt
 
@@ -120,8 +122,14 @@ owner_may_make c seat w v script a k mine has fits storable out going =
 -- ---- the host's next action
 
 module _ (c : Setting) (w : World) (rest : IsAtRest c.opening (view_of w.snapshot.views 0)) where
+  -- a request that doesn't unplug names no blocks
   may_ask : (d : HostCommand) → IsHostCommand d → MayAskDevice c 0 w (device_call d)
-  may_ask (commands.Request bytes) h = record { driver = refl; rests = rest; short = h.bytes.1; built = h.built }
+  may_ask (commands.Request bytes) h = record {
+    driver = refl;
+    rests = rest;
+    short = h.bytes.1;
+    held = λ block its. absurd (false≢true (sym (ap (λ (l : List ℕ). is_in block l) (named_none c.sizes (device_now c w).plugged (request_in bytes) h.built)) ∙ its));
+  }
   may_ask commands.Config h = tt
 
   module _ (r : BlockRange) (held_are : (b : ℕ) → is_in b (blocks_of r) ≡ is_held c w b) where

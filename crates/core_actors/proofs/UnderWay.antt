@@ -46,6 +46,7 @@ lease_heard (heards.Word word) e = cc
 lease_heard heards.Nothing e = cc
 lease_heard (heards.Leased frame) e = cc
 lease_heard (heards.NoFrame at) e = cc
+lease_heard (heards.Block heard) e = cc
 lease_heard (heards.Device heard) e = cc
 
 -- ---- each place that a call comes to

@@ -31,5 +31,6 @@ abbrev pub IsStorableAction : Action → Type 0
 IsStorableAction (actions.Step step) = IsStorable step
 IsStorableAction (actions.Move step) = ⊤
 IsStorableAction (actions.Space call) = ⊤
+IsStorableAction (actions.Block call) = ⊤
 IsStorableAction (actions.Device call) = ⊤
 IsStorableAction actions.Ended = ⊤

@@ -121,5 +121,6 @@ abbrev pub FindsTaken : Action → ℕ → Type 0
 FindsTaken (actions.Step step) found = FindsTakenBy step found
 FindsTaken (actions.Move step) found = ⊥
 FindsTaken (actions.Space call) found = ⊥
+FindsTaken (actions.Block call) found = ⊥
 FindsTaken (actions.Device call) found = ⊥
 FindsTaken actions.Ended found = ⊥

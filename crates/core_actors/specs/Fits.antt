@@ -141,10 +141,6 @@ has_at cells (InCall at) (c ∷ cs) = has_in cells c.1 at
 abbrev pub seat_has : OwnerState → SeatHas
 seat_has a = has_at a.cells a.place a.left
 
--- the one frame that the owner has in hand, if any
-abbrev pub frame_in_hand : OwnerState → Option FrameNo
-frame_in_hand a = (seat_has a).frame
-
 -- ---- how a view has it
 
 -- The page of the call is held, and nothing is known of it but this.

@@ -12,12 +12,12 @@ use Rattle.evac_model.specs.DeviceAnswer.{request_in}
 use Rattle.evac_model.specs.HostCommands.{BlockRange, no_blocks, plugged_by}
 use Rattle.machine.specs.declared.action.Action.{Action}
 use Rattle.machine.specs.declared.action.Action.TheVariants as actions
+use Rattle.machine.specs.declared.action.BlockCall.TheVariants.{Online}
 use Rattle.machine.specs.declared.action.DeviceCall.{DeviceCall}
 use Rattle.machine.specs.declared.action.DeviceCall.TheVariants as calls
 use Rattle.machine.specs.declared.action.DeviceHeard.TheVariants as device
 use Rattle.machine.specs.declared.action.Heard.{Heard}
-use Rattle.machine.specs.declared.action.Heard.TheVariants.{Start, Word, Nothing, Leased, NoFrame, Device}
-use Rattle.machine.specs.declared.action.SpaceCall.TheVariants.{Online}
+use Rattle.machine.specs.declared.action.Heard.TheVariants.{Start, Word, Nothing, Leased, NoFrame, Block, Device}
 
 -- The machine's sizes, the commands that haven't ended, in order, and the number of the first of them. That one
 -- is under way: what the device gave, once it was asked, and the blocks that are still to be put online.
@@ -49,7 +49,7 @@ device_call commands.Config = calls.Config
 -- a command asks the device, and then puts the blocks online that were plugged, one by one
 abbrev pub action_for : List HostCommand → BlockRange → Action
 action_for [] r = actions.Ended
-action_for (c ∷ cs) r = if r.count == 0 then actions.Device (device_call c) else actions.Space (Online (record { 0 = r.first }))
+action_for (c ∷ cs) r = if r.count == 0 then actions.Device (device_call c) else actions.Block (Online (record { 0 = r.first }))
 
 abbrev pub host_action : HostState → Action
 host_action h = action_for h.left h.online
@@ -63,6 +63,7 @@ result_in (Word word) = results.Answered responses.Error
 result_in Nothing = results.Answered responses.Error
 result_in (Leased frame) = results.Answered responses.Error
 result_in (NoFrame at) = results.Answered responses.Error
+result_in (Block said) = results.Answered responses.Error
 result_in (Device (device.Answered response)) = results.Answered response
 result_in (Device (device.Config config)) = results.Config config
 

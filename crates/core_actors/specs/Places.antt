@@ -53,6 +53,7 @@ word_in (heards.Word word) = word
 word_in heards.Nothing = 0
 word_in (heards.Leased frame) = 0
 word_in (heards.NoFrame at) = 0
+word_in (heards.Block heard) = 0
 word_in (heards.Device heard) = 0
 
 -- what a lease gave; what isn't of a lease is read as one that was refused
@@ -62,6 +63,7 @@ lease_in (heards.Word word) = Refused 0
 lease_in heards.Nothing = Refused 0
 lease_in (heards.Leased frame) = Got frame
 lease_in (heards.NoFrame at) = Refused at
+lease_in (heards.Block heard) = Refused 0
 lease_in (heards.Device heard) = Refused 0
 
 -- from that cell of a leased frame on

@@ -14,8 +14,12 @@ pub(crate) fn word_in(heard: &Heard) -> u64
 {
     match heard {
         Heard::Word(word) => *word,
-        Heard::Start | Heard::Nothing | Heard::Leased(_) | Heard::NoFrame(_) | Heard::Device(_) =>
-            0,
+        Heard::Start
+        | Heard::Nothing
+        | Heard::Leased(_)
+        | Heard::NoFrame(_)
+        | Heard::Block(_)
+        | Heard::Device(_) => 0,
     }
 }
 
@@ -26,9 +30,8 @@ pub(crate) fn lease_in(heard: &Heard) -> LeaseSeen
     match heard {
         Heard::Leased(frame) => LeaseSeen::Got { frame: *frame },
         Heard::NoFrame(at) => LeaseSeen::Refused { at: *at },
-        Heard::Start | Heard::Word(_) | Heard::Nothing | Heard::Device(_) => LeaseSeen::Refused {
-            at: 0,
-        },
+        Heard::Start | Heard::Word(_) | Heard::Nothing | Heard::Block(_) | Heard::Device(_) =>
+            LeaseSeen::Refused { at: 0 },
     }
 }
 
@@ -39,7 +42,11 @@ pub(crate) fn result_in(heard: &Heard) -> HostResult
     match heard {
         Heard::Device(DeviceHeard::Answered(response)) => HostResult::Answered(*response),
         Heard::Device(DeviceHeard::Config(config)) => HostResult::Config(*config),
-        Heard::Start | Heard::Word(_) | Heard::Nothing | Heard::Leased(_) | Heard::NoFrame(_) =>
-            HostResult::Answered(Response::Error),
+        Heard::Start
+        | Heard::Word(_)
+        | Heard::Nothing
+        | Heard::Leased(_)
+        | Heard::NoFrame(_)
+        | Heard::Block(_) => HostResult::Answered(Response::Error),
     }
 }

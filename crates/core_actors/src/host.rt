@@ -6,7 +6,7 @@ ghost use Rattle.core_actors.specs.Hosts.{device_call, plugged_in};
 use crate::action::Others;
 use crate::heard::result_in;
 use evac_model::{BlockNo, CommandList, Geometry, HostCommand, HostLine, HostResult, Response};
-use machine::{Action, DeviceCall, Heard, SpaceCall};
+use machine::{Action, BlockCall, DeviceCall, Heard};
 use mem_device::plugged_by;
 use std::marker::Model;
 
@@ -88,7 +88,7 @@ impl Host {
             return Action::Ended;
         }
         if self.count > 0 {
-            return Action::Space(SpaceCall::Online {
+            return Action::Block(BlockCall::Online {
                 block: BlockNo(self.first),
             });
         }

@@ -20,6 +20,6 @@ pub use laws::{
     owners_make_allowed_actions, owners_make_the_actions_of_their_calls,
     owners_make_the_actions_of_their_scripts, owners_stay_under_way,
 };
-pub use machine::{Action, DeviceCall, DeviceHeard, Heard, SpaceCall};
+pub use machine::{Action, BlockCall, DeviceCall, DeviceHeard, Heard, SpaceCall};
 pub use owner::Owner;
 pub use place::{CallPlace, Place};

@@ -1,14 +1,11 @@
 -- Each response of a report has a state.
-use Rattle.std.proofs.Common.{◌≡◌, ℕ, suc, ◌+◌, ◌*◌, ◌≤◌, ◌==◌, ◌||◌, nat_lt, length, Bool, true, false, not, if◌then◌else◌, List, [], ◌∷◌, ◌++◌, map, refl, subst, sym, arith, Option, None, Some}
-use Rattle.std.specs.List.{AllByRecursion, zip}
+use Rattle.std.proofs.Common.{ℕ, suc, ◌+◌, ◌*◌, ◌≤◌, ◌==◌, ◌||◌, nat_lt, length, Bool, true, false, not, if◌then◌else◌, List, [], ◌∷◌, subst, sym, arith, Option, None, Some}
+use Rattle.std.specs.List.{AllByRecursion}
 use Rattle.evac_model.specs.declared.device.Request.{Request}
 use Rattle.evac_model.specs.declared.device.Request.TheVariants.{Plug, Unplug, UnplugAll, State}
-use Rattle.evac_model.specs.declared.device.Response.{Response}
 use Rattle.evac_model.specs.declared.device.Response.TheVariants.{Ack, Nack, Busy, Error}
-use Rattle.evac_model.specs.declared.device_journal.DeviceAction.{DeviceAction}
 use Rattle.evac_model.specs.declared.host.HostCommand.{HostCommand}
 use Rattle.evac_model.specs.declared.host.HostCommand.TheVariants as commands
-use Rattle.evac_model.specs.declared.host.HostLine.{HostLine}
 use Rattle.evac_model.specs.declared.scenario.Scenario.{Scenario}
 use Rattle.evac_model.specs.Geometry.{Sizes, block_bytes}
 use Rattle.evac_model.specs.DeviceAnswer.{DeviceState, request_in, device_answer, range_state, block_at, is_good_range, are_plugged, are_unplugged}

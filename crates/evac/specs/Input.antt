@@ -1,5 +1,5 @@
 -- What an input is: a scenario's text of at most 2^28 bytes, or one that is refused.
-use Rattle.std.specs.Prelude.{◌≡◌, ℕ, ◌^◌, ◌<◌, ◌≤◌, ◌⊎◌, List, length}
+use Rattle.std.specs.Prelude.{ℕ, ◌<◌, ◌≤◌, ◌⊎◌, List, length}
 use Rattle.evac_model.specs.declared.scenario.Scenario.{Scenario}
 use Rattle.evac_model.specs.declared.scenario.ScenarioFault.{ScenarioFault}
 use Rattle.evac_model.specs.ScenarioGrammar.{IsScenarioText, IsRefused}

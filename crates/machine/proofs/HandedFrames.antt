@@ -59,6 +59,9 @@ module _ (views : List View) (from to : ℕ) (apart : from ≢ to) (from_lt : fr
   pub other_after : (seat : ℕ) → seat ≢ from → seat ≢ to → view_of after seat ≡ view_of views seat
   other_after seat not_from not_to = get_or-set_other (set views from given) to seat got spent not_to ∙ get_or-set_other views from seat given spent not_from
 
+  pub long_after : length after ≡ length views
+  long_after = length-set (set views from given) to got ∙ length-set views from given
+
   -- seats at rest stay so
   pub rests_after : (o : Opening) → MayHandOver o giver receiver first n → (seat : ℕ) → IsAtRest o (view_of views seat) → IsAtRest o (view_of after seat)
   rests_after o may seat rests = elim (cases_eq seat from) [
@@ -163,27 +166,27 @@ pub record IsSnapshotKept (c : Setting) (w : World) (x : Snapshot) : Type 0 wher
   pub keeper_rests : IsAtRest c.opening (view_of x.views (free_seat c))
   pub unplugged_rests : IsAtRest c.opening (view_of x.views (unplugged_seat c))
 
+-- a hand-over that is allowed keeps it
+pub handed_again : (c : Setting) (w : World) (x : Snapshot) → IsSnapshotKept c w x → (from to first n : ℕ) → from ≢ to → from < c.owners + 4 → to < c.owners + 4 → MayHandOver c.opening (view_of x.views from) (view_of x.views to) first n
+    → IsSnapshotKept c w (handed_frames x from to first n)
+handed_again c w x q from to first n apart from_in to_in may =
+    let views : List View = x.views in
+    let seats = q.seats in
+    let from_lt : from < length x.views = omega arith in
+    let to_lt : to < length x.views = omega arith in
+    record {
+      words = q.words;
+      sound = hand_overs_keep_sound c.opening x.words views from to (view_of views from) (view_of views to) first n (seat_has views from from_lt) (seat_has views to to_lt) apart q.sound may;
+      seats = long_after views from to apart from_lt to_lt first n ∙ q.seats;
+      quiet = quiet_handed x from to first n from_lt to_lt q.quiet;
+      keeper_rests = rests_after views from to apart from_lt to_lt first n c.opening may (free_seat c) q.keeper_rests;
+      unplugged_rests = rests_after views from to apart from_lt to_lt first n c.opening may (unplugged_seat c) q.unplugged_rests;
+    }
+
 module _ (c : Setting) (w : World) (k : IsConsistent c w) where
   pub same_kept : IsSnapshotKept c w w.snapshot
   same_kept = record { words = refl; sound = k.sound; seats = k.seats; quiet = k.quiet; keeper_rests = k.keeper_rests; unplugged_rests = k.unplugged_rests }
 
-  -- a hand-over that is allowed keeps it
   pub handed_kept : (from to first n : ℕ) → from ≢ to → from < c.owners + 4 → to < c.owners + 4 → MayHandOver c.opening (view_of w.snapshot.views from) (view_of w.snapshot.views to) first n
       → IsSnapshotKept c w (handed_frames w.snapshot from to first n)
-  handed_kept from to first n apart from_in to_in may =
-      let views : List View = w.snapshot.views in
-      let giver : View = view_of views from in
-      let receiver : View = view_of views to in
-      let seats = k.seats in
-      let from_lt : from < length w.snapshot.views = omega arith in
-      let to_lt : to < length w.snapshot.views = omega arith in
-      let left : View = record giver { hand = hand_without giver.hand first n } in
-      let got : View = record receiver { hand = hand_with receiver.hand giver.hand first n } in
-      record {
-        words = refl;
-        sound = hand_overs_keep_sound c.opening w.snapshot.words views from to giver receiver first n (seat_has views from from_lt) (seat_has views to to_lt) apart k.sound may;
-        seats = length-set (set views from left) to got ∙ length-set views from left ∙ k.seats;
-        quiet = quiet_handed w.snapshot from to first n from_lt to_lt k.quiet;
-        keeper_rests = rests_after views from to apart from_lt to_lt first n c.opening may (free_seat c) k.keeper_rests;
-        unplugged_rests = rests_after views from to apart from_lt to_lt first n c.opening may (unplugged_seat c) k.unplugged_rests;
-      }
+  handed_kept = handed_again c w w.snapshot same_kept

@@ -5,11 +5,16 @@ pub mod Quiet
 pub mod SpaceNow
 pub mod PlugAnswers
 pub mod Pluggable
+pub mod HeldParts
 pub mod HeldBlocks
 pub mod StepsKept
 pub mod MovesKept
+pub mod TakenFrames
 pub mod LeasesKept
+pub mod TargetsKept
 pub mod ReturnsKept
+pub mod NotesKept
+pub mod OfflinesKept
 pub mod OnlinesKept
 pub mod RequestsKept
 pub mod ActionsKept
@@ -17,3 +22,10 @@ pub mod Elsewhere
 pub mod PartsKept
 pub mod Opened
 pub mod Starting
+pub mod HandsAlone
+pub mod HeldTests
+pub mod HandedBlocks
+pub mod NamedBlocks
+pub mod BackBlocks
+pub mod RequestBlocks
+pub mod RequestParts

@@ -1,5 +1,5 @@
--- One frame goes from the hand of one seat to that of another: the hands then, and the world, where the one seat is an
--- owner's and the other that of the free frames.
+-- One frame goes from the hand of one seat to that of another: the hands then, and the world, where the one seat is the
+-- driver's or an owner's and the other that of the free frames.
 use Rattle.std.proofs.Common.{◌≡◌, ◌≢◌, ◌⊎◌, ◌↔◌, ℕ, zero, suc, ◌+◌, ◌<◌, ◌≤◌, ◌&&◌, ◌||◌, true, false, List, [], ◌∷◌, length, get_or, set, sym, ap, ◌∙◌, subst, inl, inr, arith, Option, None, IsSome, IsSomeAnd}
 use Rattle.std.proofs.lemmas.Bool.{cases_lt}
 use mathlib.Core.Logic.{dite}
@@ -7,7 +7,7 @@ use native.Mathlib.Decide.{ℕ_discrete}
 use Rattle.evac_model.specs.declared.space.SpaceAction.{SpaceAction}
 use Rattle.evac_model.specs.Geometry.{frame_count}
 use Rattle.evac_model.specs.Numbers.{is_in}
-use Rattle.evac_model.specs.SpaceJournal.{Out, SpaceState, out_for, is_frame_in, IsPossibleJournal}
+use Rattle.evac_model.specs.SpaceJournal.{Out, SpaceState, out_for, is_frame_of, is_frame_in, IsPossibleJournal}
 use Rattle.evac_model.proofs.Options.{some_from_test}
 use Rattle.evac_words.specs.Word.{mapped_bit, frame_of}
 use Rattle.core_state.specs.declared.hand.HandFrame.{HandFrame}
@@ -19,7 +19,7 @@ use Rattle.core_state.specs.Words.{entry_word_of}
 use Rattle.core_state.proofs.PassedFrames.{without_more, place_left, with_more, without_none, with_none}
 use Rattle.core_moves.proofs.Moves.{in_range as hand_in_range}
 use Rattle.machine.specs.Consistent.{IsConsistent}
-use Rattle.machine.specs.World.{Setting, World, scanner_seat, free_seat, unplugged_seat, IsOwnerSeat, HasFrame, space_at, space_now, device_now, unplugged_now, is_held}
+use Rattle.machine.specs.World.{Setting, World, scanner_seat, free_seat, unplugged_seat, IsOwnerSeat, IsActorSeat, HasFrame, space_at, space_now, device_now, unplugged_now, is_held}
 use Rattle.machine.proofs.HandedFrames.{left_behind, brought, kept_by_giver, kept_by_receiver, IsSnapshotKept}
 
 -- ---- hands as lists
@@ -87,10 +87,10 @@ module _ (o : Opening) (views : List View) (from to : ℕ) (apart : from ≢ to)
 abbrev pub IsFreeAs : Setting → SpaceState → View → (frame : ℕ) → Type 0
 IsFreeAs c st v frame = IsSome (hand_frame v frame) ↔ ((out_for st frame ≡ None) × (is_frame_in c.sizes st.offline frame ≡ false))
 
--- All but the hands of the owner and of the free frames is as it was, and all but the one frame in them, which no mapped
--- page and no other owner has.
+-- All but the hands of the actor and of the free frames is as it was, and all but the one frame in them, which no mapped
+-- page and no other owner has. An owner's frames are out then, and the driver has those of the blocks that it holds.
 pub record IsMoved (c : Setting) (w : World) (seat frame : ℕ) (views : List View) (journal : List SpaceAction) : Type 0 where
-  pub owner : IsOwnerSeat c seat
+  pub actor : IsActorSeat c seat
   pub snapshot : IsSnapshotKept c w (record { words = w.snapshot.words; views = views })
   pub others : (other : ℕ) → other ≢ seat → other ≢ free_seat c → view_of views other ≡ view_of w.snapshot.views other
   pub possible : IsPossibleJournal c.sizes c.online c.space journal
@@ -100,19 +100,20 @@ pub record IsMoved (c : Setting) (w : World) (seat frame : ℕ) (views : List Vi
   pub here : IsFreeAs c (space_at c journal) (view_of views (free_seat c)) frame
   pub unmapped : (page : ℕ) → page < c.sizes.pages → mapped_bit (entry_word_of w.snapshot.words page) ≡ 1 → frame_of (entry_word_of w.snapshot.words page) ≢ frame
   pub in_no_hand : (other : ℕ) → IsOwnerSeat c other → other ≢ seat → ¬ HasFrame w other frame
-  pub in_hand : (f : ℕ) → IsSome (hand_frame (view_of views seat) f) → out_for (space_at c journal) f ≢ None
+  pub in_hand : IsOwnerSeat c seat → (f : ℕ) → IsSome (hand_frame (view_of views seat) f) → out_for (space_at c journal) f ≢ None
+  pub driver : seat ≡ 0 → (block f : ℕ) → is_held c w block ≡ true → is_frame_of c.sizes block f ≡ true → IsSome (hand_frame (view_of views seat) f)
 
 module _ (c : Setting) (w : World) (kept : IsConsistent c w) (seat frame : ℕ) (views : List View) (journal : List SpaceAction) (h : IsMoved c w seat frame views journal) where
   -- the world with these views and this journal
   abbrev later : World
   later = record w { snapshot = record { words = w.snapshot.words; views = views }; space = journal }
 
-  -- a seat behind those of the owners
+  -- a seat behind those of the actors
   keeper_still : (keeper : ℕ) → c.owners < keeper → keeper ≢ free_seat c → view_of views keeper ≡ view_of w.snapshot.views keeper
-  keeper_still keeper behind other = h.others keeper (λ e. let high = h.owner.1 in omega arith) other
+  keeper_still keeper behind other = h.others keeper (λ e. let high = h.actor in omega arith) other
 
-  driver_still : view_of views 0 ≡ view_of w.snapshot.views 0
-  driver_still = h.others 0 (λ e. let low = h.owner.0 in omega arith) (λ e. omega arith)
+  driver_still : seat ≢ 0 → view_of views 0 ≡ view_of w.snapshot.views 0
+  driver_still ne = h.others 0 (λ e. ne (sym e)) (λ e. omega arith)
 
   free_still : (f : ℕ) → f ≢ frame → f < frame_count c.sizes → IsFreeAs c (space_now c later) (view_of views (free_seat c)) f
   free_still f ne low =
@@ -120,8 +121,14 @@ module _ (c : Setting) (w : World) (kept : IsConsistent c w) (seat frame : ℕ) 
       (subst (λ (o : Option Out). HasFrame w (free_seat c) f ↔ ((o ≡ None) × (is_frame_in c.sizes (space_now c later).offline f ≡ false))) (sym (h.out f ne))
       (subst (λ (l : List ℕ). HasFrame w (free_seat c) f ↔ ((out_for (space_now c w) f ≡ None) × (is_frame_in c.sizes l f ≡ false))) (sym h.offline) (kept.free f low)))
 
-  held_before : (block : ℕ) → is_held c later block ≡ true → is_held c w block ≡ true
-  held_before block held = ap (λ (l : List ℕ). is_in block l && is_in block (device_now c w).plugged) (sym h.offline) ∙ held
+  -- the driver holds the same blocks, and has their frames
+  pub held_still : (block : ℕ) → is_held c later block ≡ is_held c w block
+  held_still block = ap (λ (l : List ℕ). is_in block l && is_in block (device_now c w).plugged) h.offline
+
+  driver_has : (block f : ℕ) → is_held c w block ≡ true → is_frame_of c.sizes block f ≡ true → HasFrame later 0 f
+  driver_has block f held its = dite (ℕ_discrete seat 0)
+      (λ e. subst (λ (i : ℕ). HasFrame later i f) e (h.driver e block f held its))
+      (λ ne. subst (λ (v : View). IsSome (hand_frame v f)) (sym (driver_still ne)) (kept.driver block f held its))
 
   in_hand_out : (other f : ℕ) → IsOwnerSeat c other → other ≢ seat → HasFrame later other f → out_for (space_now c later) f ≢ None
   in_hand_out other f own ne has =
@@ -142,11 +149,11 @@ module _ (c : Setting) (w : World) (kept : IsConsistent c w) (seat frame : ℕ) 
         (λ e. subst (λ (g : ℕ). IsFreeAs c (space_now c later) (view_of views (free_seat c)) g) (sym e) h.here)
         (λ ne. free_still f ne low);
     unplugged = λ f low. subst (λ (v : View). IsSome (hand_frame v f) ↔ (is_frame_in c.sizes (unplugged_now c w) f ≡ true)) (sym (keeper_still (unplugged_seat c) (omega arith) (omega arith))) (kept.unplugged f low);
-    driver = λ block f held its. subst (λ (v : View). IsSome (hand_frame v f)) (sym driver_still) (kept.driver block f (held_before block held) its);
+    driver = λ block f held its. driver_has block f (sym (held_still block) ∙ held) its;
     scanner = λ f. ap (λ (v : View). hand_frame v f) (keeper_still (scanner_seat c) (omega arith) (omega arith)) ∙ kept.scanner f;
     offline = λ block. subst (λ (l : List ℕ). is_in block l ≡ (is_in block (unplugged_now c w) || (is_in block l && is_in block (device_now c w).plugged))) (sym h.offline) (kept.offline block);
     mapped = λ page low on. h.out (frame_of (entry_word_of w.snapshot.words page)) (h.unmapped page low on) ∙ kept.mapped page low on;
     in_hand = λ other f own has. dite (ℕ_discrete other seat)
-        (λ e. h.in_hand f (subst (λ (i : ℕ). IsSome (hand_frame (view_of views i) f)) e has))
+        (λ e. h.in_hand (subst (λ (i : ℕ). IsOwnerSeat c i) e own) f (subst (λ (i : ℕ). IsSome (hand_frame (view_of views i) f)) e has))
         (λ ne. in_hand_out other f own ne has);
   }

@@ -101,8 +101,8 @@ module _ (c : Setting) (w : World) (block : BlockNo) (set : IsSetting c) (k : Is
   possible : IsPossibleJournal c.sizes c.online c.space then.space
   possible = (possible_goes_on c.sizes c.online c.space w.space (space.Online block)).1 (k.possible, was_offline)
 
-  out_same : (f : ℕ) → out_for (space_now c then) f ≡ out_for st f
-  out_same f = ap (λ (x : SpaceState). out_for x f) behind
+  pub online_out : (f : ℕ) → out_for (space_now c then) f ≡ out_for st f
+  online_out f = ap (λ (x : SpaceState). out_for x f) behind
 
   offline_now : (b : ℕ) → is_in b (space_now c then).offline ≡ (is_in b st.offline && not (b == block.0))
   offline_now b = ap (λ (x : SpaceState). is_in b x.offline) behind ∙ is_in-without_block c.sizes.managed block.0 st.offline b is_space.offline
@@ -124,19 +124,22 @@ module _ (c : Setting) (w : World) (block : BlockNo) (set : IsSetting c) (k : Is
 
   -- ---- the world then
 
+  pub driver_online : (f : ℕ) → has_frame then.snapshot.views 0 f ≡ (has_frame w.snapshot.views 0 f && not (is_frame_in c.sizes one f))
+  driver_online = handed.giver
+
   frees_then : (f : ℕ) → f < frame_count c.sizes → HasFrame then free f ↔ ((out_for (space_now c then) f ≡ None) × (is_frame_in c.sizes (space_now c then).offline f ≡ false))
   frees_then f low = elim (cases_Bool (is_frame_in c.sizes one f)) [
     | inl came ↦
         let was : is_frame_in c.sizes st.offline f ≡ true = frame_in_from c.sizes st.offline block.0 f was_offline (sym (frame_in-one c.sizes block.0 f) ∙ came) in (
-          (λ has. (out_same f ∙ is_space.emptied f was, frames_offline f ∙ and_right _ _ (ap not came))),
+          (λ has. (online_out f ∙ is_space.emptied f was, frames_offline f ∙ and_right _ _ (ap not came))),
           (λ free_in. handed.receiver f ∙ or_right _ _ came),
         )
     | inr other ↦
         let same : has_frame then.snapshot.views free f ≡ has_frame w.snapshot.views free f = handed.receiver f ∙ or_none _ _ other in
         let as_before : is_frame_in c.sizes (space_now c then).offline f ≡ is_frame_in c.sizes st.offline f = frames_offline f ∙ but_none _ _ other in
         let q = k.free f low in (
-          (λ has. let h = q.0 (sym same ∙ has) in (out_same f ∙ h.0, as_before ∙ h.1)),
-          (λ h. same ∙ q.1 (sym (out_same f) ∙ h.0, sym as_before ∙ h.1)),
+          (λ has. let h = q.0 (sym same ∙ has) in (online_out f ∙ h.0, as_before ∙ h.1)),
+          (λ h. same ∙ q.1 (sym (online_out f) ∙ h.0, sym as_before ∙ h.1)),
         )
   ]
 
@@ -146,7 +149,7 @@ module _ (c : Setting) (w : World) (block : BlockNo) (set : IsSetting c) (k : Is
       let other : is_frame_in c.sizes one f ≡ false = false_from_ne_true _ (λ h.
       let mine : is_frame_of c.sizes block.0 f ≡ true = sym (frame_in-one c.sizes block.0 f) ∙ h in
       both_ways _ (not-true _ parts.1) (eq-eqb b block.0 (same_block c.sizes b block.0 f its mine))) in
-      handed.giver f ∙ and_from _ _ (k.driver b f parts.0 its) (not_from_false _ other)
+      driver_online f ∙ and_from _ _ (k.driver b f parts.0 its) (not_from_false _ other)
 
   pub online_kept : IsConsistent c then
   online_kept = record {
@@ -163,8 +166,8 @@ module _ (c : Setting) (w : World) (block : BlockNo) (set : IsSetting c) (k : Is
     driver = driver_then;
     scanner = λ f. ap (λ (v : View). hand_frame v f) (handed.others (scanner_seat c) (λ e. omega arith) (λ e. omega arith)) ∙ k.scanner f;
     offline = offline_then;
-    mapped = λ page low on. out_same (frame_of (entry_word_of w.snapshot.words page)) ∙ k.mapped page low on;
+    mapped = λ page low on. online_out (frame_of (entry_word_of w.snapshot.words page)) ∙ k.mapped page low on;
     in_hand = λ seat f owner has none.
         let same : view_of then.snapshot.views seat ≡ view_of w.snapshot.views seat = handed.others seat (λ e. let low = owner.0 in omega arith) (λ e. let high = owner.1 in omega arith) in
-        k.in_hand seat f owner (subst (λ (v : View). IsSome (hand_frame v f)) same has) (sym (out_same f) ∙ none);
+        k.in_hand seat f owner (subst (λ (v : View). IsSome (hand_frame v f)) same has) (sym (online_out f) ∙ none);
   }

@@ -1,7 +1,7 @@
 -- The parts of a machine behind an action that leaves the blocks in hand as they are.
 use Rattle.std.proofs.Common.{◌≡◌, ℕ, [], ◌∷◌, ◌++◌, sym, ap, ◌∙◌, subst}
 use Rattle.evac_model.specs.declared.space.SpaceAction.{SpaceAction}
-use Rattle.evac_model.specs.Numbers.{is_in}
+use Rattle.evac_model.specs.Numbers.{is_in, IsRisingBelow}
 use Rattle.core_state.specs.declared.opening.Opening.{Opening}
 use Rattle.core_state.specs.declared.snapshot.Snapshot.{Snapshot}
 use Rattle.core_state.specs.CoreState.{CoreState}
@@ -25,6 +25,7 @@ machine_again a b heard m is set device hand made kept stays =
       device = device ∙ (is.device ∙ sym (ap (λ (c : Setting). c.sizes) set));
       held = λ block. ap (λ (h : HandState). is_in block h.blocks) hand ∙ (is.held block ∙ (sym (stays block)
           ∙ (ap (λ (w : World). is_held (setting_of a) w block) (sym world) ∙ ap (λ (c : Setting). is_held c (world_of b) block) (sym set))));
+      rising = subst (λ (h : HandState). IsRisingBelow b.space.sizes.managed h.blocks) (sym hand) (subst (λ (c : Setting). IsRisingBelow c.sizes.managed a.held.blocks) (sym set) is.rising);
       room = ap (λ (h : HandState). h.room) hand ∙ (is.room ∙ ap (λ (c : Setting). c.sizes.managed) (sym set));
     }
 

@@ -1,60 +1,141 @@
--- What a request that doesn't unplug does to the plugged blocks: an acknowledged PLUG plugs its range, and any other
--- answer leaves them.
-use Rattle.std.proofs.Common.{◌≡◌, ℕ, ◌+◌, ◌*◌, ◌≤◌, ◌⊎◌, ◌||◌, Bool, true, false, not, nat_lt, if◌then◌else◌, length, refl, arith, inl, inr, Option, None, Some}
-use Rattle.std.proofs.lemmas.Bool.{cond-true, not-false}
-use Rattle.std.proofs.lemmas.Bool.Decides.{nat_tests}
+-- What a request does to the plugged blocks: an acknowledged PLUG plugs its range, an acknowledged UNPLUG or UNPLUG_ALL
+-- unplugs the blocks that it names, and any other answer leaves them. They stay rising.
+use Rattle.std.proofs.Common.{◌≡◌, ℕ, ◌+◌, ◌*◌, ◌≤◌, ◌&&◌, ◌||◌, ◌==◌, Bool, true, false, not, nat_lt, if◌then◌else◌, List, [], ◌∷◌, length, refl, sym, ap, subst, ◌∙◌, arith, Option, None, Some}
+use Rattle.std.specs.List.{range_with_len}
+use Rattle.std.proofs.Math.Bool.{and-true, or-false}
+use Rattle.std.proofs.lemmas.Bool.{cond-true, not-false, and_from}
 use Rattle.evac_model.specs.declared.device.Request.{Request}
 use Rattle.evac_model.specs.declared.device.Request.TheVariants.{Plug, Unplug, UnplugAll, State}
 use Rattle.evac_model.specs.declared.device.Response.{Response}
 use Rattle.evac_model.specs.declared.device.Response.TheVariants.{Ack, Nack, Busy, Error}
+use Rattle.evac_model.specs.declared.device_journal.DeviceAct.{DeviceAct}
+use Rattle.evac_model.specs.declared.device_journal.DeviceAct.TheVariants as acts
+use Rattle.evac_model.specs.declared.device_journal.DeviceAction.{DeviceAction}
 use Rattle.evac_model.specs.Geometry.{Sizes, block_bytes}
-use Rattle.evac_model.specs.Numbers.{with_range}
-use Rattle.evac_model.specs.DeviceAnswer.{DeviceState, block_at, is_good_range, are_unplugged, range_state, device_answer, after_answer}
-use Rattle.evac_model.specs.HostCommands.{BlockRange, no_blocks, unplugs, plugged_by}
+use Rattle.evac_model.specs.Numbers.{is_in, IsRisingBelow}
+use Rattle.evac_model.specs.DeviceAnswer.{DeviceState, request_in, block_at, is_good_range, are_plugged, are_unplugged, range_state, device_answer, after_answer, after_act, device_after, device_at_start}
+use Rattle.evac_model.specs.HostCommands.{BlockRange, blocks_of, range_blocks, plugged_by, IsAnswered, AreAnswered}
+use Rattle.evac_model.proofs.Bounds.{good_within}
+use Rattle.evac_model.proofs.Members.{is_in-range_with_len}
+use Rattle.evac_model.proofs.Unions.{is_in-with_range, is_in-without_range, rising-with_range, rising-without_range, numbers-range}
+use Rattle.mem_device.specs.Answering.{named_blocks}
+use Rattle.mem_device.proofs.Answers.{none_rising}
+use Rattle.machine.specs.Consistent.{IsSetting, IsConsistent}
+use Rattle.machine.specs.Made.{unplugged_by}
+use Rattle.machine.specs.World.{Setting, World, device_now}
 
--- no block is plugged, and all stay as they were
-pub record PlugsNone (s : Sizes) (d : DeviceState) (request : Option Request) (response : Response) : Type 0 where
-  pub range : plugged_by s request response ≡ no_blocks
-  pub plugged : (after_answer s d request response).plugged ≡ d.plugged
+-- the blocks plugged come in and those unplugged go, and the list stays rising
+pub record Changes (s : Sizes) (d : DeviceState) (request : Option Request) (response : Response) : Type 0 where
+  pub plugged : (b : ℕ) → is_in b (after_answer s d request response).plugged
+      ≡ ((is_in b d.plugged || is_in b (blocks_of (plugged_by s request response))) && not (is_in b (unplugged_by s d.plugged request response)))
+  pub rising : IsRisingBelow s.managed d.plugged → IsRisingBelow s.managed (after_answer s d request response).plugged
 
--- the blocks of the range are plugged
-pub record Plugs (s : Sizes) (d : DeviceState) (request : Option Request) (response : Response) (r : BlockRange) : Type 0 where
-  pub range : plugged_by s request response ≡ r
-  pub some : 1 ≤ r.count
-  pub plugged : (after_answer s d request response).plugged ≡ with_range r.first r.count d.plugged
+-- ---- the causes in their order
 
-abbrev pub PlugsOrNone : Sizes → DeviceState → Option Request → Response → Type 0
-PlugsOrNone s d request response = PlugsNone s d request response ⊎ ((r : BlockRange) × Plugs s d request response r)
+by_plug : (P : Response → Type 0) (bad few mixed busy : Bool) → P Error → P Nack → P Busy → (bad ≡ false → P (Ack 0)) → P (if bad then Error else if few then Nack else if mixed then Error else if busy then Busy else Ack 0)
+by_plug P true few mixed busy error nack wait ack = error
+by_plug P false true mixed busy error nack wait ack = nack
+by_plug P false false true busy error nack wait ack = error
+by_plug P false false false true error nack wait ack = wait
+by_plug P false false false false error nack wait ack = ack refl
 
-good_some : (s : Sizes) (addr count : ℕ) → is_good_range s addr count ≡ true → 1 ≤ count
-good_some s addr count good = grind (arith, nat_tests, good)
+by_unplug : (P : Response → Type 0) (good whole busy : Bool) → P Error → P Busy → (good ≡ true → whole ≡ true → P (Ack 0)) → P (if not good then Error else if not whole then Error else if busy then Busy else Ack 0)
+by_unplug P false whole busy error wait ack = error
+by_unplug P true false busy error wait ack = error
+by_unplug P true true true error wait ack = wait
+by_unplug P true true false error wait ack = ack refl refl
 
--- the causes in their order
-by_cause : (P : Response → Type 0) (bad few mixed busy : Bool) → P Error → P Nack → P Busy → (bad ≡ false → P (Ack 0)) → P (if bad then Error else if few then Nack else if mixed then Error else if busy then Busy else Ack 0)
-by_cause P true few mixed busy error nack wait ack = error
-by_cause P false true mixed busy error nack wait ack = nack
-by_cause P false false true busy error nack wait ack = error
-by_cause P false false false true error nack wait ack = wait
-by_cause P false false false false error nack wait ack = ack refl
+by_unplug_all : (P : Response → Type 0) (none busy : Bool) → P Busy → P (Ack 0) → P (if none then Ack 0 else if busy then Busy else Ack 0)
+by_unplug_all P true busy wait ack = ack
+by_unplug_all P false true wait ack = wait
+by_unplug_all P false false wait ack = ack
+
+by_state : (P : Response → Type 0) (bad : Bool) (state : ℕ) → P Error → P (Ack state) → P (if bad then Error else Ack state)
+by_state P true state error told = error
+by_state P false state error told = told
+
+-- ---- one request
+
+pub same_in : (x : Bool) → x ≡ ((x || false) && true)
+same_in true = refl
+same_in false = refl
+
+pub all_gone : (x : Bool) → false ≡ ((x || false) && not x)
+all_gone true = refl
+all_gone false = refl
 
 module _ (s : Sizes) (d : DeviceState) where
-  plug_acknowledged : (addr count : ℕ) → is_good_range s addr count ≡ true → Plugs s d (Some (Plug addr count)) (Ack 0) (record { first = block_at s addr; count = count })
-  plug_acknowledged addr count good = record {
-    range = cond-true (is_good_range s addr count) _ _ good;
-    some = good_some s addr count good;
-    plugged = refl;
-  }
+  -- whether a block is plugged
+  abbrev was : ℕ → Bool
+  was b = is_in b d.plugged
 
-  state_told : (addr count : ℕ) (bad : Bool) → PlugsOrNone s d (Some (State addr count)) (if bad then Error else Ack (range_state d.plugged (block_at s addr) count))
-  state_told addr count true = inl (record { range = refl; plugged = refl })
-  state_told addr count false = inl (record { range = refl; plugged = refl })
+  plug_acknowledged : (addr count : ℕ) → is_good_range s addr count ≡ true → Changes s d (Some (Plug addr count)) (Ack 0)
+  plug_acknowledged addr count good =
+      let first : ℕ = block_at s addr in
+      let range : range_blocks s addr count ≡ record { first = first; count = count } = cond-true (is_good_range s addr count) _ _ good in
+      record {
+        plugged = λ b.
+            is_in-with_range first count d.plugged b
+            ∙ (ap (λ (t : Bool). was b || t) (sym (is_in-range_with_len b first count))
+            ∙ (ap (λ (r : BlockRange). was b || is_in b (blocks_of r)) (sym range)
+            ∙ sym (and-true (was b || is_in b (blocks_of (range_blocks s addr count))))));
+        rising = λ r. rising-with_range first count s.managed d.plugged r (good_within s addr count good);
+      }
 
-  pub plugs_or_none : (request : Option Request) → unplugs request ≡ false → PlugsOrNone s d request (device_answer s d false request)
-  plugs_or_none None built = inl (record { range = refl; plugged = refl })
-  plugs_or_none (Some (Plug addr count)) built =
-      by_cause (PlugsOrNone s d (Some (Plug addr count))) (not (is_good_range s addr count)) (nat_lt d.requested ((length d.plugged + count) * block_bytes s)) (not (are_unplugged d.plugged (block_at s addr) count)) (d.migrating || false)
-      (inl (record { range = refl; plugged = refl })) (inl (record { range = refl; plugged = refl })) (inl (record { range = refl; plugged = refl }))
-      (λ good. inr (record { first = block_at s addr; count = count }, plug_acknowledged addr count (not-false _ good)))
-  plugs_or_none (Some (Unplug addr count)) built = absurd (cc)
-  plugs_or_none (Some UnplugAll) built = absurd (cc)
-  plugs_or_none (Some (State addr count)) built = state_told addr count (not (is_good_range s addr count))
+  unplug_acknowledged : (addr count : ℕ) → is_good_range s addr count ≡ true → are_plugged d.plugged (block_at s addr) count ≡ true → Changes s d (Some (Unplug addr count)) (Ack 0)
+  unplug_acknowledged addr count good whole =
+      let first : ℕ = block_at s addr in
+      let named : named_blocks s d.plugged (Some (Unplug addr count)) ≡ range_with_len first count =
+      cond-true (is_good_range s addr count && are_plugged d.plugged first count) _ _ (and_from _ _ good whole) in
+      record {
+        plugged = λ b.
+            is_in-without_range first count d.plugged b
+            ∙ (ap (λ (t : Bool). was b && not t) (sym (is_in-range_with_len b first count))
+            ∙ (ap (λ (l : List ℕ). was b && not (is_in b l)) (sym named)
+            ∙ ap (λ (t : Bool). t && not (is_in b (named_blocks s d.plugged (Some (Unplug addr count))))) (sym (or-false (was b)))));
+        rising = rising-without_range first count s.managed d.plugged;
+      }
+
+  pub changes : (request : Option Request) → Changes s d request (device_answer s d false request)
+  changes None = record { plugged = λ b. same_in (was b); rising = λ r. r }
+  changes (Some (Plug addr count)) =
+      by_plug (Changes s d (Some (Plug addr count))) (not (is_good_range s addr count)) (nat_lt d.requested ((length d.plugged + count) * block_bytes s)) (not (are_unplugged d.plugged (block_at s addr) count)) (d.migrating || false)
+      (record { plugged = λ b. same_in (was b); rising = λ r. r }) (record { plugged = λ b. same_in (was b); rising = λ r. r }) (record { plugged = λ b. same_in (was b); rising = λ r. r })
+      (λ good. plug_acknowledged addr count (not-false _ good))
+  changes (Some (Unplug addr count)) =
+      by_unplug (Changes s d (Some (Unplug addr count))) (is_good_range s addr count) (are_plugged d.plugged (block_at s addr) count) (d.migrating || false)
+      (record { plugged = λ b. same_in (was b); rising = λ r. r }) (record { plugged = λ b. same_in (was b); rising = λ r. r })
+      (unplug_acknowledged addr count)
+  changes (Some UnplugAll) =
+      by_unplug_all (Changes s d (Some UnplugAll)) (length d.plugged == 0) (d.migrating || false)
+      (record { plugged = λ b. same_in (was b); rising = λ r. r })
+      (record { plugged = λ b. all_gone (was b); rising = λ r. none_rising s.managed })
+  changes (Some (State addr count)) =
+      by_state (Changes s d (Some (State addr count))) (not (is_good_range s addr count)) (range_state d.plugged (block_at s addr) count)
+      (record { plugged = λ b. same_in (was b); rising = λ r. r })
+      (record { plugged = λ b. same_in (was b); rising = λ r. r })
+
+-- ---- a journal
+
+module _ (s : Sizes) where
+  act_rising : (d : DeviceState) (a : DeviceAct) → IsAnswered s d a → IsRisingBelow s.managed d.plugged → IsRisingBelow s.managed (after_act s d a).plugged
+  act_rising d (acts.Requested size) is r = r
+  act_rising d (acts.Request bytes response) is r =
+      subst (λ (x : Response). IsRisingBelow s.managed (after_answer s d (request_in bytes) x).plugged) (sym is) ((changes s d (request_in bytes)).rising r)
+  act_rising d (acts.Join key) is r = r
+  act_rising d acts.JoinRefused is r = r
+  act_rising d (acts.Leave key) is r = r
+  act_rising d acts.Begin is r = r
+  act_rising d acts.Cancel is r = r
+  act_rising d acts.Finish is r = r
+
+  journal_rising : (d : DeviceState) (journal : List DeviceAction) → AreAnswered s d journal → IsRisingBelow s.managed d.plugged → IsRisingBelow s.managed (device_after s d journal).plugged
+  journal_rising d [] answered r = r
+  journal_rising d (a ∷ journal) answered r = journal_rising (device_after s d (a ∷ [])) journal answered.1 (act_rising d a.act answered.0 r)
+
+  start_rising : s.plugged ≤ s.managed → IsRisingBelow s.managed (device_at_start s).plugged
+  start_rising few = sym (numbers-range (λ (b : ℕ). is_in b (range_with_len 0 s.plugged)) 0 s.plugged s.managed (omega arith) (λ b low. is_in-range_with_len b 0 s.plugged))
+
+-- the plugged blocks of a consistent world are rising
+pub plugged_rising : (c : Setting) (w : World) → IsSetting c → IsConsistent c w → IsRisingBelow c.sizes.managed (device_now c w).plugged
+plugged_rising c w set k = journal_rising c.sizes (device_at_start c.sizes) w.device k.answered (start_rising c.sizes set.limits.plugged)

@@ -1,6 +1,6 @@
--- No seat but the driver's has the right to move a page: at the start, and behind each action. So no owner's step needs
--- room for a notice.
-use Rattle.std.proofs.Common.{◌≡◌, ⊎_elim, ℕ, zero, suc, ◌+◌, ◌-◌, ◌<◌, ◌≤◌, Bool, false, List, [], ◌∷◌, ◌++◌, length, get_or, set, refl, ap, sym, ◌∙◌, subst, arith, Some, None}
+-- No seat but the driver's has the right to move a page: at the start, and behind each action. So no step of another seat
+-- needs room for a notice.
+use Rattle.std.proofs.Common.{◌≡◌, ◌≢◌, ⊎_elim, ℕ, zero, suc, ◌+◌, ◌-◌, ◌<◌, Bool, false, List, [], ◌∷◌, ◌++◌, length, get_or, set, refl, ap, sym, ◌∙◌, subst, arith, Some, None}
 use Rattle.std.proofs.lemmas.Option.{same_Some, none-some}
 use Rattle.evac_model.specs.declared.scenario.StartPage.{StartPage}
 use Rattle.evac_model.specs.Geometry.{Sizes}
@@ -22,7 +22,7 @@ use Rattle.core_state.proofs.Lists.{at_set}
 use Rattle.core_state.proofs.Rooms.{seat_has}
 use Rattle.machine.specs.Consistent.{IsQuiet, IsConsistent}
 use Rattle.machine.specs.Made.{handed_frames}
-use Rattle.machine.specs.World.{Setting, World, IsOwnerSeat}
+use Rattle.machine.specs.World.{Setting, World, IsOwnerSeat, IsActorSeat}
 
 -- ---- no right to move
 
@@ -70,17 +70,20 @@ quiet_handed s from to first n giver receiver quiet =
     quiet_set (set s.views from (record v { hand = hand_without v.hand first n })) to (record w { hand = hand_with w.hand v.hand first n }) (quiet_at s.views to receiver quiet)
     (quiet_set s.views from (record v { hand = hand_without v.hand first n }) (quiet_at s.views from giver quiet) quiet)
 
--- ---- an owner's seat
+-- ---- the seats of the driver and of the owners
 
-module _ (c : Setting) (w : World) (seat : ℕ) (k : IsConsistent c w) (owner : IsOwnerSeat c seat) where
-  pub owner_there : seat < length w.snapshot.views
-  owner_there = let low = owner.1 in let seats = k.seats in omega arith
+module _ (c : Setting) (w : World) (seat : ℕ) (k : IsConsistent c w) (actor : IsActorSeat c seat) where
+  pub actor_there : seat < length w.snapshot.views
+  actor_there = let seats = k.seats in omega arith
 
-  pub owner_quiet : (view_of w.snapshot.views seat).mover ≡ []
-  owner_quiet = let first = owner.0 in quiet_at w.snapshot.views seat owner_there k.quiet (seat - 1) (omega arith)
+  pub mover_at : (i : ℕ) → seat ≡ suc i → (view_of w.snapshot.views seat).mover ≡ []
+  mover_at = quiet_at w.snapshot.views seat actor_there k.quiet
 
-  pub owner_has_room : (step : Step) (room : ℕ) → notices_of (view_of w.snapshot.views seat) step ≤ room
-  owner_has_room step room = let none = no_notices (view_of w.snapshot.views seat) step owner_quiet in omega arith
+  pub needs_no_room : (step : Step) → seat ≢ 0 → notices_of (view_of w.snapshot.views seat) step ≡ 0
+  needs_no_room step other = no_notices (view_of w.snapshot.views seat) step (mover_at (seat - 1) (omega arith))
+
+pub owner_there : (c : Setting) (w : World) (seat : ℕ) → IsConsistent c w → IsOwnerSeat c seat → seat < length w.snapshot.views
+owner_there c w seat k owner = actor_there c w seat k owner.1
 
 -- ---- at the opening
 

@@ -1,72 +1,72 @@
--- A request that doesn't unplug: the frames of the blocks that it plugs go from the hand of who keeps the unplugged ones
--- to the driver's, and the driver holds these blocks then.
-use Rattle.std.proofs.Common.{◌≡◌, ◌≢◌, ◌↔◌, ℕ, ◌+◌, ◌*◌, ◌==◌, ◌<◌, ◌≤◌, Bool, true, false, not, ◌&&◌, ◌||◌, if◌then◌else◌, List, [], ◌∷◌, ◌++◌, refl, sym, ap, ◌∙◌, subst, arith, inl, inr, None, Some, IsSome}
-use Rattle.std.specs.List.{range_with_len}
-use Rattle.std.proofs.Math.Bool.{or-false}
-use Rattle.std.proofs.lemmas.Bool.{cases_lt, eqb-true, eqb-false, false≢true, and_right, not-true, or_cases, or_left, or_right}
+-- A request: the frames of the blocks that it plugs go from the hand of who keeps the unplugged ones to the driver's, and
+-- those of the blocks that it unplugs go back.
+use Rattle.std.proofs.Common.{◌≡◌, ◌≢◌, ◌↔◌, ℕ, ◌<◌, Bool, true, false, not, ◌&&◌, ◌||◌, List, [], ◌∷◌, ◌++◌, length, filter, refl, sym, ap, ◌∙◌, subst, arith, inl, inr, None, Some, IsSome, Option}
+use Rattle.std.proofs.lemmas.Bool.{both_ways, and_from, and_parts, not-true, not_from_false, false_from_ne_true, or_cases, or_left, or_right}
+use Rattle.evac_model.specs.declared.device.Request.{Request}
 use Rattle.evac_model.specs.declared.device.Response.{Response}
 use Rattle.evac_model.specs.declared.device_journal.DeviceAction.{DeviceAction}
-use Rattle.evac_model.specs.Geometry.{Sizes, frame_count, first_frame}
-use Rattle.evac_model.specs.DeviceAnswer.{DeviceState, request_in, after_answer, device_after, device_at_start, unplugged_blocks}
+use Rattle.evac_model.specs.Geometry.{Sizes, frame_count}
+use Rattle.evac_model.specs.DeviceAnswer.{DeviceState, request_in, device_after, device_at_start}
 use Rattle.evac_model.specs.HostCommands.{BlockRange, blocks_of, answer_to, plugged_by, request_action, AreAnswered}
 use Rattle.evac_model.specs.Numbers.{is_in}
 use Rattle.evac_model.specs.SpaceJournal.{out_for, is_frame_of, is_frame_in}
 use Rattle.evac_words.specs.Word.{mapped_bit, frame_of}
-use Rattle.evac_model.proofs.Members.{is_in-range_with_len}
-use Rattle.evac_model.proofs.Numbers.{is_in-numbers_where, is_in-numbers_where_past}
-use Rattle.evac_model.proofs.Ranges.{range-list_all}
-use Rattle.evac_model.proofs.Unions.{is_in-with_range}
+use Rattle.evac_model.proofs.Members.{is_in-filter}
 use Rattle.core_state.specs.declared.snapshot.Snapshot.{Snapshot}
 use Rattle.core_state.specs.declared.view.View.{View}
-use Rattle.core_state.specs.HandOvers.{MayHandOver}
 use Rattle.core_state.specs.Views.{view_of, hand_frame}
 use Rattle.core_state.specs.Words.{entry_word_of, kind_in}
-use Rattle.mem_device.proofs.Journals.{device_after-push}
-use Rattle.space.proofs.BlockFrames.{both_true, frame_in_witness, frame_in_from}
+use Rattle.space.proofs.BlockFrames.{both_true, same_block, frame_below, frame_in_witness, frame_in_from}
+use Rattle.space.proofs.Members.{distinct-range_with_len}
+use Rattle.machine.specs.BlocksInHand.{MayHandBlocks}
 use Rattle.machine.specs.Consistent.{IsSetting, IsConsistent}
-use Rattle.machine.specs.Made.{handed_frames, request_made}
+use Rattle.machine.specs.Made.{handed_blocks, unplugged_by, request_made}
 use Rattle.machine.specs.MayMake.{MayRequest}
 use Rattle.machine.specs.World.{Setting, World, scanner_seat, free_seat, unplugged_seat, HasFrame, space_now, device_now, unplugged_now, is_held}
-use Rattle.machine.proofs.BlockFrames.{range_bounds, frame_from_range, blocks_below, frame_in-without}
-use Rattle.machine.proofs.HandedFrames.{AreHanded, has_frame, none_handed, blocks_handed, IsSnapshotKept, same_kept, handed_kept}
-use Rattle.machine.proofs.PlugAnswers.{plugs_or_none}
-use Rattle.machine.proofs.Pluggable.{ArePluggable, request_plugged}
+use Rattle.machine.proofs.BlockFrames.{blocks_below, frame_in-without}
+use Rattle.machine.proofs.HandedBlocks.{list_handed, list_kept, list_rests}
+use Rattle.machine.proofs.HandedFrames.{AreHanded, has_frame, IsSnapshotKept, same_kept}
+use Rattle.machine.proofs.NamedBlocks.{unplugged_distinct}
+use Rattle.machine.proofs.PlugAnswers.{plugged_rising}
+use Rattle.machine.proofs.RequestBlocks.{plugged_managed, were_unplugged, unplugged_held, unplugged_managed, unplugged_then, offline_then}
+pub use Rattle.machine.proofs.RequestBlocks.{held_request}
 
--- ---- tests
+-- ---- frames of lists of blocks
 
-not_or : (x y : Bool) → not (x || y) ≡ (not x && not y)
-not_or true y = refl
-not_or false y = refl
+module _ (s : Sizes) (f : ℕ) where
+  -- each block of the two
+  frame_in-with : (xs ys zs : List ℕ) → ((b : ℕ) → is_in b zs ≡ (is_in b xs || is_in b ys)) → is_frame_in s zs f ≡ (is_frame_in s xs f || is_frame_in s ys f)
+  frame_in-with xs ys zs h = both_true _ _
+      (λ t.
+      let q = frame_in_witness s zs f t in
+      elim (or_cases _ _ (sym (h q.0) ∙ q.1)) [
+        | inl old ↦ or_left _ _ (frame_in_from s xs q.0 f old q.2)
+        | inr new ↦ or_right _ _ (frame_in_from s ys q.0 f new q.2)
+      ])
+      (λ t. elim (or_cases _ _ t) [
+        | inl old ↦ let q = frame_in_witness s xs f old in frame_in_from s zs q.0 f (h q.0 ∙ or_left _ _ q.1) q.2
+        | inr new ↦ let q = frame_in_witness s ys f new in frame_in_from s zs q.0 f (h q.0 ∙ or_right _ _ q.1) q.2
+      ])
 
--- where the third holds only beside the first
-both_more : (x y z : Bool) → (z ≡ true → x ≡ true) → (x && (y || z)) ≡ ((x && y) || z)
-both_more true y z h = refl
-both_more false y true h = absurd (false≢true (h refl))
-both_more false y false h = refl
+  -- each block of the first that isn't of the second, and those of the third
+  frame_in-changed : (xs ys zs us : List ℕ) → ((b : ℕ) → is_in b us ≡ ((is_in b xs && not (is_in b ys)) || is_in b zs)) → is_frame_in s us f ≡ ((is_frame_in s xs f && not (is_frame_in s ys f)) || is_frame_in s zs f)
+  frame_in-changed xs ys zs us h =
+      let left : List ℕ = filter (λ (b : ℕ). not (is_in b ys)) xs in
+      frame_in-with left zs us (λ b. h b ∙ ap (λ (t : Bool). t || is_in b zs) (sym (is_in-filter (λ (j : ℕ). not (is_in j ys)) b xs)))
+      ∙ ap (λ (t : Bool). t || is_frame_in s zs f) (frame_in-without s xs ys left f (λ b. is_in-filter (λ (j : ℕ). not (is_in j ys)) b xs))
 
-gone_over : (x y z : Bool) → (z ≡ true → x ≡ true) → (x || y) ≡ ((x && not z) || (y || z))
-gone_over true true true h = refl
-gone_over true false true h = refl
-gone_over true y false h = refl
-gone_over false y true h = absurd (false≢true (h refl))
-gone_over false true false h = refl
-gone_over false false false h = refl
+  -- a block that isn't in the list has no frame of its blocks
+  frame_elsewhere : (blocks : List ℕ) (block : ℕ) → is_in block blocks ≡ false → is_frame_of s block f ≡ true → is_frame_in s blocks f ≡ false
+  frame_elsewhere blocks block there its = false_from_ne_true _ (λ h.
+      let q = frame_in_witness s blocks f h in
+      both_ways _ there (ap (λ (b : ℕ). is_in b blocks) (same_block s block q.0 f its q.2) ∙ q.1))
 
--- ---- the blocks that aren't plugged
-
--- where more blocks are plugged they are those that weren't but these
-unplugged-more : (s : Sizes) (plugged after more : List ℕ) → ((b : ℕ) → is_in b after ≡ (is_in b plugged || is_in b more))
-    → (b : ℕ) → is_in b (unplugged_blocks s after) ≡ (is_in b (unplugged_blocks s plugged) && not (is_in b more))
-unplugged-more s plugged after more has b = elim (cases_lt b s.managed) [
-  | inl low ↦
-      is_in-numbers_where (λ (j : ℕ). not (is_in j after)) s.managed b low
-      ∙ ap not (has b)
-      ∙ not_or (is_in b plugged) (is_in b more)
-      ∙ ap (λ (t : Bool). t && not (is_in b more)) (sym (is_in-numbers_where (λ (j : ℕ). not (is_in j plugged)) s.managed b low))
-  | inr past ↦
-      is_in-numbers_where_past (λ (j : ℕ). not (is_in j after)) s.managed b past
-      ∙ ap (λ (t : Bool). t && not (is_in b more)) (sym (is_in-numbers_where_past (λ (j : ℕ). not (is_in j plugged)) s.managed b past))
-]
+-- a frame of a managed block is one of the machine
+frame_there : (s : Sizes) (block f : ℕ) → block < s.managed → is_frame_of s block f ≡ true → f < frame_count s
+frame_there s block f low its =
+    let end = frame_below s block f its in
+    let below = blocks_below s block 1 (omega arith) in
+    omega arith
 
 -- ---- the device's journal
 
@@ -77,152 +77,133 @@ answered_more s d (a ∷ journal) more h g = (h.0, answered_more s (device_after
 -- ---- a request
 
 module _ (c : Setting) (w : World) (bytes : List ℕ) (set : IsSetting c) (k : IsConsistent c w) (may : MayRequest c 0 w bytes) where
-  abbrev unplugged : ℕ
-  unplugged = unplugged_seat c
+  abbrev keeper : ℕ
+  keeper = unplugged_seat c
 
   abbrev d : DeviceState
   d = device_now c w
 
+  abbrev request : Option Request
+  request = request_in bytes
+
   abbrev response : Response
   response = answer_to c.sizes d bytes
 
-  -- the blocks that it plugs
   abbrev range : BlockRange
-  range = plugged_by c.sizes (request_in bytes) response
+  range = plugged_by c.sizes request response
+
+  -- the blocks that it plugs, and those that it unplugs
+  abbrev came : List ℕ
+  came = blocks_of range
+
+  abbrev gone : List ℕ
+  gone = unplugged_by c.sizes d.plugged request response
 
   abbrev after : World
   after = (request_made c w bytes response).world
 
-  -- ---- the blocks
+  -- ---- the frames of those plugged
 
-  pluggable : 1 ≤ range.count → ArePluggable c.sizes d range
-  pluggable some = request_plugged c.sizes d (request_in bytes) some
+  apart : keeper ≢ 0
+  apart = λ e. omega arith
 
-  module _ (b : ℕ) (its : is_in b (blocks_of range) ≡ true) where
-    bounds : (range.first ≤ b) × (b < range.first + range.count)
-    bounds = range_bounds range.first range.count b its
+  apart_back : 0 ≢ keeper
+  apart_back = λ e. omega arith
 
-    some_there : 1 ≤ range.count
-    some_there = let low = bounds.0 in let high = bounds.1 in omega arith
+  keeper_there : keeper < length w.snapshot.views
+  keeper_there = let seats = k.seats in omega arith
 
-    pub plugged_managed : b < c.sizes.managed
-    plugged_managed = let high = bounds.1 in let inside = (pluggable some_there).inside in omega arith
+  driver_there : 0 < length w.snapshot.views
+  driver_there = let seats = k.seats in omega arith
 
-    was_not : not (is_in b d.plugged) ≡ true
-    was_not = range-list_all (λ (j : ℕ). not (is_in j d.plugged)) range.first range.count (pluggable some_there).unplugged b bounds.0 bounds.1
-
-    were_unplugged : is_in b (unplugged_now c w) ≡ true
-    were_unplugged = is_in-numbers_where (λ (j : ℕ). not (is_in j d.plugged)) c.sizes.managed b plugged_managed ∙ was_not
-
-    were_offline : is_in b (space_now c w).offline ≡ true
-    were_offline = k.offline b ∙ or_left _ _ were_unplugged
-
-    -- the driver doesn't hold them yet
-    pub plugged_not_held : is_held c w b ≡ false
-    plugged_not_held = and_right _ _ (not-true _ was_not)
-
-  -- the plugged blocks then
-  device_then : device_now c after ≡ after_answer c.sizes d (request_in bytes) response
-  device_then = device_after-push c.sizes (device_at_start c.sizes) w.device (request_action bytes response)
-
-  plugged_then : (b : ℕ) → is_in b (device_now c after).plugged ≡ (is_in b d.plugged || is_in b (blocks_of range))
-  plugged_then b = ap (λ (x : DeviceState). is_in b x.plugged) device_then ∙ elim (plugs_or_none c.sizes d (request_in bytes) may.built) [
-    | inl none ↦
-        ap (λ (l : List ℕ). is_in b l) none.plugged
-        ∙ sym (ap (λ (r : BlockRange). is_in b d.plugged || is_in b (blocks_of r)) none.range ∙ or-false (is_in b d.plugged))
-    | inr plugs ↦
-        let r : BlockRange = plugs.0 in
-        ap (λ (l : List ℕ). is_in b l) plugs.1.plugged
-        ∙ (is_in-with_range r.first r.count d.plugged b
-        ∙ (ap (λ (t : Bool). is_in b d.plugged || t) (sym (is_in-range_with_len b r.first r.count))
-        ∙ ap (λ (x : BlockRange). is_in b d.plugged || is_in b (blocks_of x)) (sym plugs.1.range)))
-  ]
-
-  unplugged_then : (b : ℕ) → is_in b (unplugged_now c after) ≡ (is_in b (unplugged_now c w) && not (is_in b (blocks_of range)))
-  unplugged_then = unplugged-more c.sizes d.plugged (device_now c after).plugged (blocks_of range) plugged_then
-
-  pub held_request : (b : ℕ) → is_held c after b ≡ (is_held c w b || is_in b (blocks_of range))
-  held_request b =
-      ap (λ (t : Bool). is_in b (space_now c w).offline && t) (plugged_then b)
-      ∙ both_more (is_in b (space_now c w).offline) (is_in b d.plugged) (is_in b (blocks_of range)) (were_offline b)
-
-  offline_then : (b : ℕ) → is_in b (space_now c w).offline ≡ (is_in b (unplugged_now c after) || is_held c after b)
-  offline_then b =
-      k.offline b
-      ∙ (gone_over (is_in b (unplugged_now c w)) (is_held c w b) (is_in b (blocks_of range)) (were_unplugged b)
-      ∙ (ap (λ (t : Bool). t || (is_held c w b || is_in b (blocks_of range))) (sym (unplugged_then b))
-      ∙ ap (λ (t : Bool). is_in b (unplugged_now c after) || t) (sym (held_request b))))
-
-  -- ---- the hand-over
-
-  pub request_hands : 1 ≤ range.count → MayHandOver c.opening (view_of w.snapshot.views unplugged) (view_of w.snapshot.views 0) (first_frame c.sizes range.first) (range.count * c.sizes.block)
-  request_hands some =
-      let below = blocks_below c.sizes range.first range.count (pluggable some).inside in
-      let frames = set.frames in
-      record {
-        giver_rests = k.unplugged_rests;
-        receiver_rests = may.rests;
-        in_range = omega arith;
-        in_hand = λ f from high.
-            let q = frame_in_witness c.sizes (blocks_of range) f (frame_from_range c.sizes range.first range.count f from high) in
-            (k.unplugged f (omega arith)).1 (frame_in_from c.sizes (unplugged_now c w) q.0 f (were_unplugged q.0 q.1) q.2);
-      }
-
-  -- the frames of the range change hands, where there are any, and the rest stays
-  record IsHanded (x : Snapshot) : Type 0 where
-    hands : AreHanded c.sizes w.snapshot.views x.views unplugged 0 (blocks_of range)
-    kept : IsSnapshotKept c w x
-
-  handed_by : (none : Bool) → (range.count == 0) ≡ none → IsHanded (if none then w.snapshot else handed_frames w.snapshot unplugged 0 (first_frame c.sizes range.first) (range.count * c.sizes.block))
-  handed_by true is = record {
-    hands = none_handed c.sizes w.snapshot.views unplugged 0 (blocks_of range) (ap (λ (n : ℕ). range_with_len range.first n) (eqb-true range.count 0 is));
-    kept = same_kept c w k;
+  pub plugged_may : MayHandBlocks c.sizes c.opening w.snapshot.views keeper 0 came
+  plugged_may = record {
+    frames = let frames = set.frames in omega arith;
+    giver_rests = k.unplugged_rests;
+    receiver_rests = may.rests;
+    managed = plugged_managed c w bytes set k may;
+    distinct = distinct-range_with_len range.first range.count;
+    in_hand = λ f its.
+        let q = frame_in_witness c.sizes came f its in
+        let low = frame_there c.sizes q.0 f (plugged_managed c w bytes set k may q.0 q.1) q.2 in
+        (k.unplugged f low).1 (frame_in_from c.sizes (unplugged_now c w) q.0 f (were_unplugged c w bytes set k may q.0 q.1) q.2);
   }
-  handed_by false is =
-      let hands = request_hands (let some = eqb-false range.count 0 is in omega arith) in
-      let seats = k.seats in
-      record {
-        hands = blocks_handed c.sizes c.opening w.snapshot.views unplugged 0 (λ e. omega arith) (omega arith) (omega arith) range.first range.count (range.count * c.sizes.block) refl hands;
-        kept = handed_kept c w k unplugged 0 (first_frame c.sizes range.first) (range.count * c.sizes.block) (λ e. omega arith) (omega arith) (omega arith) hands;
-      }
 
-  handed : IsHanded after.snapshot
-  handed = handed_by (range.count == 0) refl
+  -- the words and the views with these frames in the driver's hand
+  abbrev between : Snapshot
+  between = handed_blocks c.sizes w.snapshot keeper 0 came
 
-  stays : (seat : ℕ) → seat ≢ unplugged → seat ≢ 0 → view_of after.snapshot.views seat ≡ view_of w.snapshot.views seat
-  stays seat other one = handed.hands.others seat other one
+  plugged_hands : AreHanded c.sizes w.snapshot.views between.views keeper 0 came
+  plugged_hands = list_handed c.sizes c.opening keeper 0 apart w.snapshot came keeper_there driver_there plugged_may
+
+  pub plugged_kept : IsSnapshotKept c w between
+  plugged_kept = list_kept c w keeper 0 apart (omega arith) (omega arith) w.snapshot came (same_kept c w k) plugged_may
+
+  -- ---- the frames of those unplugged
+
+  pub unplugged_may : MayHandBlocks c.sizes c.opening between.views 0 keeper gone
+  unplugged_may = record {
+    frames = let frames = set.frames in omega arith;
+    giver_rests = list_rests c.sizes c.opening keeper 0 apart w.snapshot came keeper_there driver_there plugged_may 0 may.rests;
+    receiver_rests = plugged_kept.unplugged_rests;
+    managed = unplugged_managed c w bytes set k may;
+    distinct = unplugged_distinct c.sizes d.plugged request response (plugged_rising c w set k);
+    in_hand = λ f its.
+        let q = frame_in_witness c.sizes gone f its in
+        plugged_hands.receiver f ∙ or_left _ _ (k.driver q.0 f (unplugged_held c w bytes set k may q.0 q.1) q.2);
+  }
+
+  unplugged_hands : AreHanded c.sizes between.views after.snapshot.views 0 keeper gone
+  unplugged_hands =
+      let seats = plugged_kept.seats in
+      list_handed c.sizes c.opening 0 keeper apart_back between gone (omega arith) (omega arith) unplugged_may
+
+  kept : IsSnapshotKept c w after.snapshot
+  kept = list_kept c w 0 keeper apart_back (omega arith) (omega arith) between gone plugged_kept unplugged_may
+
+  -- ---- the hands then
+
+  pub driver_request : (f : ℕ) → has_frame after.snapshot.views 0 f ≡ ((has_frame w.snapshot.views 0 f || is_frame_in c.sizes came f) && not (is_frame_in c.sizes gone f))
+  driver_request f = unplugged_hands.giver f ∙ ap (λ (t : Bool). t && not (is_frame_in c.sizes gone f)) (plugged_hands.receiver f)
+
+  pub request_others : (seat : ℕ) → seat ≢ 0 → seat ≢ keeper → view_of after.snapshot.views seat ≡ view_of w.snapshot.views seat
+  request_others seat other one = unplugged_hands.others seat other one ∙ plugged_hands.others seat one other
+
+  driver_then : (block f : ℕ) → is_held c after block ≡ true → is_frame_of c.sizes block f ≡ true → HasFrame after 0 f
+  driver_then block f held its =
+      let parts = and_parts _ _ (sym (held_request c w bytes set k may block) ∙ held) in
+      let has : (has_frame w.snapshot.views 0 f || is_frame_in c.sizes came f) ≡ true = elim (or_cases _ _ parts.0) [
+        | inl had ↦ or_left _ _ (k.driver block f had its)
+        | inr new ↦ or_right _ _ (frame_in_from c.sizes came block f new its)
+      ] in
+      driver_request f ∙ and_from _ _ has (not_from_false _ (frame_elsewhere c.sizes f gone block (not-true _ parts.1) its))
+
+  keeper_has : (f : ℕ) → f < frame_count c.sizes → has_frame after.snapshot.views keeper f ≡ is_frame_in c.sizes (unplugged_now c after) f
+  keeper_has f low =
+      let q = k.unplugged f low in
+      let had : has_frame w.snapshot.views keeper f ≡ is_frame_in c.sizes (unplugged_now c w) f = both_true _ _ q.0 q.1 in
+      unplugged_hands.receiver f
+      ∙ (ap (λ (t : Bool). t || is_frame_in c.sizes gone f) (plugged_hands.giver f ∙ ap (λ (t : Bool). t && not (is_frame_in c.sizes came f)) had)
+      ∙ sym (frame_in-changed c.sizes f (unplugged_now c w) came gone (unplugged_now c after) (unplugged_then c w bytes set k may)))
 
   -- ---- the world then
 
-  driver_then : (block frame : ℕ) → is_held c after block ≡ true → is_frame_of c.sizes block frame ≡ true → HasFrame after 0 frame
-  driver_then block frame held its = handed.hands.receiver frame ∙ elim (or_cases _ _ (sym (held_request block) ∙ held)) [
-    | inl had ↦ or_left _ _ (k.driver block frame had its)
-    | inr came ↦ or_right _ _ (frame_in_from c.sizes (blocks_of range) block frame came its)
-  ]
-
-  unplugged_has : (frame : ℕ) → frame < frame_count c.sizes → has_frame after.snapshot.views unplugged frame ≡ is_frame_in c.sizes (unplugged_now c after) frame
-  unplugged_has frame low =
-      let q = k.unplugged frame low in
-      handed.hands.giver frame
-      ∙ (ap (λ (t : Bool). t && not (is_frame_in c.sizes (blocks_of range) frame)) (both_true (has_frame w.snapshot.views unplugged frame) (is_frame_in c.sizes (unplugged_now c w) frame) q.0 q.1)
-      ∙ sym (frame_in-without c.sizes (unplugged_now c w) (blocks_of range) (unplugged_now c after) frame unplugged_then))
-
   pub request_kept : IsConsistent c after
   request_kept = record {
-    sound = handed.kept.sound;
-    seats = handed.kept.seats;
-    quiet = handed.kept.quiet;
-    keeper_rests = handed.kept.keeper_rests;
-    unplugged_rests = handed.kept.unplugged_rests;
+    sound = kept.sound;
+    seats = kept.seats;
+    quiet = kept.quiet;
+    keeper_rests = kept.keeper_rests;
+    unplugged_rests = kept.unplugged_rests;
     possible = k.possible;
     answered = answered_more c.sizes (device_at_start c.sizes) w.device (request_action bytes response ∷ []) k.answered (refl, tt);
-    free = λ frame low. subst (λ (v : View). IsSome (hand_frame v frame) ↔ ((out_for (space_now c w) frame ≡ None) × (is_frame_in c.sizes (space_now c w).offline frame ≡ false)))
-        (sym (stays (free_seat c) (λ e. omega arith) (λ e. omega arith))) (k.free frame low);
-    unplugged = λ frame low. let same = unplugged_has frame low in ((λ h. sym same ∙ h), (λ h. same ∙ h));
+    free = λ f low. subst (λ (v : View). IsSome (hand_frame v f) ↔ ((out_for (space_now c w) f ≡ None) × (is_frame_in c.sizes (space_now c w).offline f ≡ false)))
+        (sym (request_others (free_seat c) (λ e. omega arith) (λ e. omega arith))) (k.free f low);
+    unplugged = λ f low. let same = keeper_has f low in ((λ h. sym same ∙ h), (λ h. same ∙ h));
     driver = driver_then;
-    scanner = λ frame. ap (λ (v : View). hand_frame v frame) (stays (scanner_seat c) (λ e. omega arith) (λ e. omega arith)) ∙ k.scanner frame;
-    offline = offline_then;
+    scanner = λ f. ap (λ (v : View). hand_frame v f) (request_others (scanner_seat c) (λ e. omega arith) (λ e. omega arith)) ∙ k.scanner f;
+    offline = offline_then c w bytes set k may;
     mapped = subst (λ (words : List ℕ). (page : ℕ) → page < c.sizes.pages → mapped_bit (entry_word_of words page) ≡ 1
-        → out_for (space_now c w) (frame_of (entry_word_of words page)) ≡ Some (record { page = page; kind = kind_in (entry_word_of words page) })) (sym handed.kept.words) k.mapped;
-    in_hand = λ seat frame owner has. k.in_hand seat frame owner (subst (λ (v : View). IsSome (hand_frame v frame)) (stays seat (λ e. let high = owner.1 in omega arith) (λ e. let low = owner.0 in omega arith)) has);
+        → out_for (space_now c w) (frame_of (entry_word_of words page)) ≡ Some (record { page = page; kind = kind_in (entry_word_of words page) })) (sym kept.words) k.mapped;
+    in_hand = λ seat f owner has. k.in_hand seat f owner (subst (λ (v : View). IsSome (hand_frame v f)) (request_others seat (λ e. let low = owner.0 in omega arith) (λ e. let high = owner.1 in omega arith)) has);
   }

@@ -4,12 +4,13 @@ use Rattle.std.proofs.Common.{◌≡◌, ℕ, ◌<◌, true, false, sym, ◌∙�
 use Rattle.std.proofs.lemmas.Bool.{false_from_ne_true, or_left}
 use Rattle.std.proofs.lemmas.Option.{none-some}
 use Rattle.evac_model.specs.declared.names.Kind.{Kind}
+use Rattle.evac_model.specs.Numbers.{is_in}
 use Rattle.evac_model.specs.SpaceJournal.{Leased, lease_of, out_for, is_frame_in, IsLeasable}
 use Rattle.evac_words.specs.Word.{mapped_bit, frame_of}
 use Rattle.core_state.specs.Words.{entry_word_of}
 use Rattle.space.specs.JournaledSpace.{JournaledSpace}
 use Rattle.space.specs.SpaceInside.{IsSpace}
-use Rattle.space.proofs.BlockFrames.{frame_in_witness, frame_in_from}
+use Rattle.space.proofs.BlockFrames.{frame_in_witness, frame_in_from, is_in_bound}
 use Rattle.space.proofs.Leases.{leased_free}
 use Rattle.space.proofs.SpaceLaws.{space_behind_all}
 use Rattle.machine.specs.Consistent.{IsSetting, IsConsistent}
@@ -17,6 +18,10 @@ use Rattle.machine.specs.World.{Setting, World, space_now, unplugged_now}
 
 pub space_is : (c : Setting) (w : World) → IsSetting c → IsConsistent c w → IsSpace c.sizes c.online (space_now c w)
 space_is c w r k = space_behind_all c.sizes c.online c.space w.space r.limits r.space k.possible
+
+-- an isolated block is a managed one
+pub isolated_managed : (c : Setting) (w : World) → IsSetting c → IsConsistent c w → (block : ℕ) → is_in block (space_now c w).isolated ≡ true → block < c.sizes.managed
+isolated_managed c w r k block = is_in_bound c.sizes.managed (space_now c w).isolated block (space_is c w r k).isolated
 
 -- none of an offline block's frames is out
 pub offline_not_out : (c : Setting) (w : World) → IsSetting c → IsConsistent c w → (frame : ℕ) → is_frame_in c.sizes (space_now c w).offline frame ≡ true → out_for (space_now c w) frame ≡ None

@@ -1,10 +1,11 @@
 -- The parts of a machine at its start.
-use Rattle.std.proofs.Common.{◌≡◌, ℕ, List, [], length, sym, ap, ◌∙◌, subst}
+use Rattle.std.proofs.Common.{◌≡◌, ℕ, List, [], length, refl, sym, ap, ◌∙◌, subst}
 use Rattle.evac_model.specs.declared.names.Kind.{Kind}
 use Rattle.evac_model.specs.declared.scenario.StartPage.{StartPage}
 use Rattle.evac_model.specs.Geometry.{Sizes}
-use Rattle.evac_model.specs.Numbers.{is_in}
+use Rattle.evac_model.specs.Numbers.{is_in, IsRisingBelow}
 use Rattle.evac_model.specs.SpaceJournal.{space_at_start}
+use Rattle.evac_model.proofs.Numbers.{numbers_where-none}
 use Rattle.core_state.specs.CoreOpens.{opening_of, opening_words, opening_views}
 use Rattle.space.specs.JournaledSpace.{JournaledSpace}
 use Rattle.machine.specs.declared.parts.Parts.{Parts}
@@ -44,5 +45,6 @@ module _ (a : Parts) (s : Sizes) (online : Kind) (start : List StartPage) (budge
     held = λ block.
         ap (λ (l : List ℕ). is_in block l) p.held
         ∙ sym (ap (λ (m : MachineState). is_held m.setting m.world block) state_is ∙ opened_none s online start budgets block);
+    rising = subst (λ (l : List ℕ). IsRisingBelow a.space.sizes.managed l) (sym p.held) (sym (numbers_where-none (λ b. is_in b []) a.space.sizes.managed (λ b. refl)));
     room = p.room ∙ sym (ap (λ (y : JournaledSpace). y.sizes.managed) p.space);
   }

@@ -1,10 +1,10 @@
 -- A step on a word leaves the frames where they are, and each page mapped as it is. So the world stays consistent.
-use Rattle.std.proofs.Common.{◌≡◌, ◌≢◌, ◌↔◌, ℕ, ◌<◌, ◌==◌, true, false, List, [], get_or, get_or-set_same, get_or-set_other, length-set, set, bit_or, sym, refl, ap, ◌∙◌, subst, arith, Option, Some, None, IsSome}
+use Rattle.std.proofs.Common.{◌≡◌, ◌≢◌, ◌↔◌, ℕ, suc, ◌<◌, ◌==◌, true, false, List, [], get_or, get_or-set_same, get_or-set_other, length-set, set, bit_or, sym, refl, ap, ◌∙◌, subst, arith, Option, Some, None, is_some, IsSome}
 use mathlib.Core.Logic.{dite}
 use native.Mathlib.Decide.{ℕ_discrete}
 use Rattle.evac_model.specs.declared.names.Kind.{Kind}
 use Rattle.evac_model.specs.Page.{kind_of}
-use Rattle.evac_model.specs.SpaceJournal.{SpaceState, out_for, is_frame_in}
+use Rattle.evac_model.specs.SpaceJournal.{SpaceState, out_for, is_frame_of, is_frame_in}
 use Rattle.evac_words.specs.Word.{mapped_bit, pins_of, frame_of, bound_of}
 use Rattle.evac_words.specs.Table.{entry_index}
 use Rattle.core_state.specs.declared.hand.HandFrame.{HandFrame}
@@ -39,50 +39,59 @@ use Rattle.machine.specs.Consistent.{IsSetting, IsConsistent}
 use Rattle.machine.specs.Made.{Made, heard_by, step_made}
 use Rattle.machine.specs.MachineInside.{IsMachine, setting_of, world_of, made_of}
 use Rattle.machine.specs.MayMake.{MayStep}
-use Rattle.machine.specs.World.{Setting, World, scanner_seat, free_seat, unplugged_seat, IsOwnerSeat, space_now, unplugged_now}
-use Rattle.machine.proofs.Quiet.{mover_kept, quiet_set, owner_there, owner_quiet}
+use Rattle.machine.specs.World.{Setting, World, scanner_seat, free_seat, unplugged_seat, IsOwnerSeat, IsActorSeat, HasFrame, space_now, unplugged_now, is_held}
+use Rattle.machine.proofs.Quiet.{mover_kept, quiet_set, actor_there, mover_at}
 
--- ---- other words, and another view of an owner
+-- ---- other words, and another view of an actor
 
 -- where the word maps the page, the frame is out for it, with its kind
 abbrev pub IsMappedOut : SpaceState → (page word : ℕ) → Type 0
 IsMappedOut st page word = mapped_bit word ≡ 1 → out_for st (frame_of word) ≡ Some (record { page = page; kind = kind_in word })
 
-module _ (c : Setting) (w : World) (seat : ℕ) (words : List ℕ) (v : View) (k : IsConsistent c w) (owner : IsOwnerSeat c seat) where
+-- the driver has the frames of the blocks that it holds
+pub driver_has : (c : Setting) (w : World) (seat : ℕ) → IsConsistent c w → seat ≡ 0 → (block frame : ℕ) → is_held c w block ≡ true → is_frame_of c.sizes block frame ≡ true → HasFrame w seat frame
+driver_has c w seat k first block frame held its = subst (λ (i : ℕ). HasFrame w i frame) (sym first) (k.driver block frame held its)
+
+module _ (c : Setting) (w : World) (seat : ℕ) (words : List ℕ) (v : View) (k : IsConsistent c w) (actor : IsActorSeat c seat) where
   abbrev st : SpaceState
   st = space_now c w
 
   abbrev views : List View
   views = set w.snapshot.views seat v
 
-  view_here : view_of views seat ≡ v
-  view_here = get_or-set_same w.snapshot.views seat v spent (owner_there c w seat k owner)
-
   view_else : (i : ℕ) → i ≢ seat → view_of views i ≡ view_of w.snapshot.views i
   view_else i ne = get_or-set_other w.snapshot.views seat i v spent ne
 
   -- the seats behind the owners'
   view_behind : (i : ℕ) → c.owners < i → view_of views i ≡ view_of w.snapshot.views i
-  view_behind i past = view_else i (λ e. let low = owner.1 in omega arith)
+  view_behind i past = view_else i (λ e. omega arith)
 
-  pub consistent_with : Sound c.opening words views → v.mover ≡ [] → ((page : ℕ) → page < c.sizes.pages → IsMappedOut st page (entry_word_of words page)) → ((frame : ℕ) → IsSome (hand_frame v frame) → out_for st frame ≢ None)
+  view_at : (i : ℕ) → i ≡ seat → view_of views i ≡ v
+  view_at i e = ap (λ (j : ℕ). view_of views j) e ∙ get_or-set_same w.snapshot.views seat v spent (actor_there c w seat k actor)
+
+  -- the view of an owner has frames alone that are out, and that of the driver those of the blocks that it holds
+  pub consistent_with : Sound c.opening words views → ((i : ℕ) → seat ≡ suc i → v.mover ≡ []) → ((page : ℕ) → page < c.sizes.pages → IsMappedOut st page (entry_word_of words page))
+      → (IsOwnerSeat c seat → (frame : ℕ) → IsSome (hand_frame v frame) → out_for st frame ≢ None)
+      → (seat ≡ 0 → (block frame : ℕ) → is_held c w block ≡ true → is_frame_of c.sizes block frame ≡ true → IsSome (hand_frame v frame))
       → IsConsistent c (record w { snapshot = record { words = words; views = views } })
-  consistent_with sound still mapped hand = record {
+  consistent_with sound still mapped out held = record {
     sound = sound;
     seats = length-set w.snapshot.views seat v ∙ k.seats;
-    quiet = quiet_set w.snapshot.views seat v (λ i e. still) k.quiet;
+    quiet = quiet_set w.snapshot.views seat v still k.quiet;
     keeper_rests = subst (λ (u : View). IsAtRest c.opening u) (sym (view_behind (free_seat c) (omega arith))) k.keeper_rests;
     unplugged_rests = subst (λ (u : View). IsAtRest c.opening u) (sym (view_behind (unplugged_seat c) (omega arith))) k.unplugged_rests;
     possible = k.possible;
     answered = k.answered;
     free = λ frame low. subst (λ (u : View). IsSome (hand_frame u frame) ↔ ((out_for st frame ≡ None) × (is_frame_in c.sizes st.offline frame ≡ false))) (sym (view_behind (free_seat c) (omega arith))) (k.free frame low);
     unplugged = λ frame low. subst (λ (u : View). IsSome (hand_frame u frame) ↔ (is_frame_in c.sizes (unplugged_now c w) frame ≡ true)) (sym (view_behind (unplugged_seat c) (omega arith))) (k.unplugged frame low);
-    driver = λ block frame held there. subst (λ (u : View). IsSome (hand_frame u frame)) (sym (view_else 0 (λ e. let first = owner.0 in omega arith))) (k.driver block frame held there);
+    driver = λ block frame is its. dite (ℕ_discrete 0 seat)
+        (λ e. subst (λ (u : View). IsSome (hand_frame u frame)) (sym (view_at 0 e)) (held (sym e) block frame is its))
+        (λ ne. subst (λ (u : View). IsSome (hand_frame u frame)) (sym (view_else 0 ne)) (k.driver block frame is its));
     scanner = λ frame. ap (λ (u : View). hand_frame u frame) (view_behind (scanner_seat c) (omega arith)) ∙ k.scanner frame;
     offline = k.offline;
     mapped = mapped;
     in_hand = λ i frame at has. dite (ℕ_discrete i seat)
-        (λ e. hand frame (subst (λ (u : View). IsSome (hand_frame u frame)) (ap (λ (j : ℕ). view_of views j) e ∙ view_here) has))
+        (λ e. out (subst (λ (j : ℕ). IsOwnerSeat c j) e at) frame (subst (λ (u : View). IsSome (hand_frame u frame)) (view_at i e) has))
         (λ ne. k.in_hand i frame at (subst (λ (u : View). IsSome (hand_frame u frame)) (view_else i ne) has));
   }
 
@@ -153,38 +162,45 @@ module _ (o : Opening) (words : List ℕ) (shaped : Shaped o words) where
 
 -- ---- the hand
 
-stored_there : (x : Option HandFrame) (cell value : ℕ) → IsSome (with_hand_store x cell value) → IsSome x
-stored_there None cell value some = some
-stored_there (Some x) cell value some = refl
+same_stored : (x : Option HandFrame) (cell value : ℕ) → is_some (with_hand_store x cell value) ≡ is_some x
+same_stored None cell value = refl
+same_stored (Some x) cell value = refl
 
--- a frame in hand was there
+-- the frames in hand are those that were
+same_frames : (k : Keeper) (v : View) (step : Step) (found f : ℕ) → is_some (hand_frame (view_after k v step found) f) ≡ is_some (hand_frame v f)
+same_frames k v (Take page) found f = refl
+same_frames k v Draw found f = refl
+same_frames k v (Load cell) found f = refl
+same_frames k v (Store frame cell value) found f =
+    let stored = with_hand_store (hand_frame v frame.0) cell value in
+    dite (ℕ_discrete f frame.0)
+    (λ e. subst (λ (g : ℕ). is_some (get_or (set v.hand frame.0 stored) g None) ≡ is_some (hand_frame v g)) (sym e)
+    (ap (λ (x : Option HandFrame). is_some x) (hand-set_same v.hand frame.0 stored (λ none. ap (λ (x : Option HandFrame). with_hand_store x cell value) none)) ∙ same_stored (hand_frame v frame.0) cell value))
+    (λ ne. ap (λ (x : Option HandFrame). is_some x) (get_or-set_other v.hand frame.0 f stored None ne))
+same_frames k v (Mark frame) found f = refl
+same_frames k v (Release None) found f = refl
+same_frames k v (Release (Some d)) found f = refl
+
 pub hand_before : (k : Keeper) (v : View) (step : Step) (found f : ℕ) → IsSome (hand_frame (view_after k v step found) f) → IsSome (hand_frame v f)
-hand_before k v (Take page) found f some = some
-hand_before k v Draw found f some = some
-hand_before k v (Load cell) found f some = some
-hand_before k v (Store frame cell value) found f some = dite (ℕ_discrete f frame.0)
-    (λ e. subst (λ (g : ℕ). IsSome (hand_frame v g)) (sym e)
-    (stored_there (hand_frame v frame.0) cell value
-    (subst (λ (x : Option HandFrame). IsSome x) (hand-set_same v.hand frame.0 (with_hand_store (hand_frame v frame.0) cell value) (λ none. ap (λ (x : Option HandFrame). with_hand_store x cell value) none))
-    (subst (λ (g : ℕ). IsSome (get_or (set v.hand frame.0 (with_hand_store (hand_frame v frame.0) cell value)) g None)) e some))))
-    (λ ne. subst (λ (x : Option HandFrame). IsSome x) (get_or-set_other v.hand frame.0 f (with_hand_store (hand_frame v frame.0) cell value) None ne) some)
-hand_before k v (Mark frame) found f some = some
-hand_before k v (Release None) found f some = some
-hand_before k v (Release (Some d)) found f some = some
+hand_before k v step found f some = sym (same_frames k v step found f) ∙ some
+
+pub hand_behind : (k : Keeper) (v : View) (step : Step) (found f : ℕ) → IsSome (hand_frame v f) → IsSome (hand_frame (view_after k v step found) f)
+hand_behind k v step found f some = same_frames k v step found f ∙ some
 
 -- ---- the step
 
 pub step_kept : (c : Setting) (seat : ℕ) (w : World) (step : Step) → IsSetting c → IsConsistent c w → MayStep c seat w step → IsConsistent c (step_made c seat w step).world
 step_kept c seat w step r k may =
     let v = view_of w.snapshot.views seat in
-    let has = seat_has w.snapshot.views seat (owner_there c w seat k may.owner) in
+    let has = seat_has w.snapshot.views seat (actor_there c w seat k may.actor) in
     let found = word_found c.opening w.snapshot.words v step in
-    consistent_with c w seat (words_after c.opening w.snapshot.words v step) (view_after OneOwner v step found) k may.owner
+    consistent_with c w seat (words_after c.opening w.snapshot.words v step) (view_after OneOwner v step found) k may.actor
     (steps_keep_sound OneOwner c.opening w.snapshot.words w.snapshot.views seat v step has k.sound may.allowed)
-    (mover_kept OneOwner v step found ∙ owner_quiet c w seat k may.owner)
+    (λ i e. mover_kept OneOwner v step found ∙ mover_at c w seat k may.actor i e)
     (λ page low. maps_out (space_now c w) page _ (entry_word_of w.snapshot.words page)
     (maps_step c.opening w.snapshot.words k.sound.shaped w.snapshot.views seat v has k.sound.turn step may.allowed page (let e = r.pages in omega arith)) (k.mapped page low))
-    (λ frame some. k.in_hand seat frame may.owner (hand_before OneOwner v step found frame some))
+    (λ owner frame some. k.in_hand seat frame owner (hand_before OneOwner v step found frame some))
+    (λ first block frame held its. hand_behind OneOwner v step found frame (driver_has c w seat k first block frame held its))
 
 -- ---- the parts of a machine
 
@@ -195,10 +211,11 @@ machine_with a core same k kept = record {
   consistent = subst (λ (o : Opening). IsConsistent (record (setting_of a) { opening = o }) (record (world_of a) { snapshot = core.snapshot })) (sym same) kept;
   device = k.device;
   held = k.held;
+  rising = k.rising;
   room = k.room;
 }
 
--- the machine behind a step of an owner
+-- the machine behind a step
 pub machine_stepped : (a : Parts) (core : CoreState) (seat : ℕ) (step : Step) → core.opening ≡ a.core.opening → core.snapshot ≡ snapshot_after OneOwner a.core.opening a.core.snapshot seat step → IsMachine a → MayStep (setting_of a) seat (world_of a) step
     → IsMachine (record a { core = core })
 machine_stepped a core seat step same is k may = machine_with a core same k

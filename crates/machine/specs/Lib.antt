@@ -3,4 +3,5 @@ pub mod Made
 pub mod Consistent
 pub mod MayMake
 pub mod Start
+pub mod BlocksInHand
 pub mod MachineInside

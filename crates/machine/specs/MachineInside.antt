@@ -1,6 +1,6 @@
 -- How a machine is kept.
 use Rattle.std.specs.Prelude.{◌≡◌, ℕ}
-use Rattle.evac_model.specs.Numbers.{is_in}
+use Rattle.evac_model.specs.Numbers.{is_in, IsRisingBelow}
 use Rattle.machine.specs.declared.action.Heard.{Heard}
 use Rattle.machine.specs.declared.parts.Parts.{Parts}
 use Rattle.machine.specs.Consistent.{IsSetting, IsConsistent}
@@ -21,10 +21,11 @@ abbrev pub made_of : Parts → Heard → Made
 made_of a heard = record { world = world_of a; heard = heard }
 
 -- The world is consistent, the device is of the same machine, and the blocks in hand are those that the driver holds,
--- with room for each block.
+-- rising, with room for each block.
 pub record IsMachine (a : Parts) : Type 0 where
   pub set : IsSetting (setting_of a)
   pub consistent : IsConsistent (setting_of a) (world_of a)
   pub device : a.device.sizes ≡ a.space.sizes
   pub held : (block : ℕ) → is_in block a.held.blocks ≡ is_held (setting_of a) (world_of a) block
+  pub rising : IsRisingBelow a.space.sizes.managed a.held.blocks
   pub room : a.held.room ≡ a.space.sizes.managed

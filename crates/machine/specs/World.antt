@@ -47,6 +47,10 @@ unplugged_seat c = c.owners + 3
 abbrev pub IsOwnerSeat : Setting → (seat : ℕ) → Type 0
 IsOwnerSeat c seat = (1 ≤ seat) × (seat ≤ c.owners)
 
+-- the driver's seat, or an owner's
+abbrev pub IsActorSeat : Setting → (seat : ℕ) → Type 0
+IsActorSeat c seat = seat ≤ c.owners
+
 -- the seat has the frame in hand
 abbrev pub HasFrame : World → (seat frame : ℕ) → Type 0
 HasFrame w seat frame = IsSome (hand_frame (view_of w.snapshot.views seat) frame)

@@ -1,30 +1,40 @@
 //! Whether a seat may make an action, by the machine as it stands.
 
-ghost use Rattle.std.specs.Prelude.{◌≡◌, ◌↔◌, ◌<◌, IsTrue, Some, length};
+ghost use Rattle.std.specs.List.{range_with_len};
+ghost use Rattle.mem_device.specs.Answering.{named_blocks};
+ghost use Rattle.std.specs.Prelude.{◌≡◌, ◌≢◌, ◌↔◌, ℕ, ◌+◌, ◌<◌, ◌≤◌, true, IsTrue, None, Some, length};
 ghost use Rattle.evac_model.specs.DeviceAnswer.{request_in};
-ghost use Rattle.evac_model.specs.HostCommands.{unplugs};
+ghost use Rattle.evac_model.specs.Numbers.{is_in};
 ghost use Rattle.evac_model.specs.SpaceJournal.{out_for};
 ghost use Rattle.core_state.specs.HandOvers.{IsAtRest};
 ghost use Rattle.core_state.specs.Steps.{held_page, held_word};
 ghost use Rattle.core_state.specs.Views.{view_of};
 ghost use Rattle.core_state.specs.Words.{kind_in};
 ghost use Rattle.machine.specs.MachineInside.{IsMachine, setting_of, world_of};
-ghost use Rattle.machine.specs.MayMake.{IsOutForHeld, MayStep, MayMove, MayLease, MayReturn, MayPutOnline, MayAskSpace, MayRequest, MayAskDevice, MayMake};
-ghost use Rattle.machine.specs.World.{IsOwnerSeat, HasFrame, space_now, is_held};
+ghost use Rattle.machine.specs.MayMake.{IsOutForHeld, MayStep, MayMove, MayLease, MayReturn, MayAskSpace, MayIsolate, MayTarget, MayUndo, MayTakeOffline, MayPutOnline, MayAskForBlock, MayRequest, MayAskDevice, MayMake};
+ghost use Rattle.machine.specs.World.{IsOwnerSeat, IsActorSeat, HasFrame, space_now, device_now, is_held};
 
-use crate::action::{Action, DeviceCall, SpaceCall};
+use crate::action::{Action, BlockCall, DeviceCall, SpaceCall};
+use crate::device_calls::is_unplug_all;
 use crate::parts::Parts;
 use core_moves::may_move;
 use core_state::{MoveStep, Step, View, is_seated};
-use evac_model::{BlockNo, FrameNo, Kind, PageNo, Request, RequestBytes};
+use evac_model::{BlockNo, FrameNo, Kind, PageNo, RequestBytes};
 use evac_words::is_unmovable;
-use mem_codec::read_request;
+use mem_device::named_range;
 
 /// Whether the seat is an owner's.
 fn is_owner(parts: &Parts, seat: u32) -> bool
     ensures { IsTrue result ↔ IsOwnerSeat (setting_of parts.now) seat }
 {
     1 <= seat && seat <= parts.owners
+}
+
+/// Whether the seat is the driver's or an owner's.
+fn is_actor(parts: &Parts, seat: u32) -> bool
+    ensures { IsTrue result ↔ IsActorSeat (setting_of parts.now) seat }
+{
+    seat <= parts.owners
 }
 
 /// The view of a seat.
@@ -125,20 +135,20 @@ fn is_out_for_held(parts: &Parts, view: &View, step: &MoveStep) -> bool
     }
 }
 
-/// Whether it is an owner's step on a word.
+/// Whether it is a step of the driver or of an owner on a word.
 fn may_step(parts: &Parts, seat: u32, step: &Step) -> bool
     requires is { IsMachine parts.now }
     ensures { IsTrue result ↔ MayStep (setting_of parts.now) seat (world_of parts.now) step.now }
 {
-    is_owner(parts, seat) && parts.core.allows(seat, *step)
+    is_actor(parts, seat) && parts.core.allows(seat, *step)
 }
 
-/// Whether it is an owner's step on the mapping of the page that it holds.
+/// Whether it is a step of the driver or of an owner on the mapping of the page that it holds.
 fn may_change_mapping(parts: &Parts, seat: u32, step: &MoveStep) -> bool
     requires is { IsMachine parts.now }
     ensures { IsTrue result ↔ MayMove (setting_of parts.now) seat (world_of parts.now) step.now }
 {
-    is_owner(parts, seat)
+    is_actor(parts, seat)
         && may_move(&parts.core, seat, *step)
         && is_out_for_held(parts, view_at(parts, seat), step)
 }
@@ -151,12 +161,62 @@ fn may_lease(parts: &Parts, seat: u32, page: PageNo) -> bool
     is_owner(parts, seat) && is_page(parts, page) && rests(parts, seat)
 }
 
-/// Whether an owner at rest gives a frame back that it has in hand.
+/// Whether the driver or an owner, at rest, gives a frame back that it has in hand and that is out.
 fn may_give_back(parts: &Parts, seat: u32, frame: FrameNo) -> bool
     requires is { IsMachine parts.now }
     ensures { IsTrue result ↔ MayReturn (setting_of parts.now) seat (world_of parts.now) frame }
 {
-    is_owner(parts, seat) && rests(parts, seat) && has_frame(parts, seat, frame)
+    is_actor(parts, seat)
+        && rests(parts, seat)
+        && has_frame(parts, seat, frame)
+        && parts.space.out_at(frame).is_some()
+}
+
+/// Whether what is asked of the frame space for a page may be asked.
+fn may_ask_space(parts: &Parts, seat: u32, call: &SpaceCall) -> bool
+    requires is { IsMachine parts.now }
+    ensures { IsTrue result ↔ MayAskSpace (setting_of parts.now) seat (world_of parts.now) call.now }
+{
+    match call {
+        SpaceCall::Lease { page, kind: _ } => may_lease(parts, seat, *page),
+        SpaceCall::Return { frame } => may_give_back(parts, seat, *frame),
+    }
+}
+
+/// Whether the driver isolates a managed block that isn't isolated.
+fn may_isolate(parts: &Parts, seat: u32, block: BlockNo) -> bool
+    requires is { IsMachine parts.now }
+    ensures { IsTrue result ↔ MayIsolate (setting_of parts.now) seat (world_of parts.now) block }
+{
+    seat == 0 && block.0 < parts.space.geometry().managed() && !parts.space.is_isolated(block)
+}
+
+/// Whether the driver at rest leases a target for a page of an isolated block.
+fn may_lease_target(parts: &Parts, seat: u32, block: BlockNo) -> bool
+    requires is { IsMachine parts.now }
+    ensures { IsTrue result ↔ MayTarget (setting_of parts.now) seat (world_of parts.now) block }
+{
+    seat == 0 && rests(parts, 0) && parts.space.is_isolated(block)
+}
+
+/// Whether the driver takes the isolation of a block back that isn't offline.
+fn may_undo(parts: &Parts, seat: u32, block: BlockNo) -> bool
+    requires is { IsMachine parts.now }
+    ensures { IsTrue result ↔ MayUndo (setting_of parts.now) seat (world_of parts.now) block }
+{
+    seat == 0 && parts.space.is_isolated(block) && !parts.space.is_offline(block)
+}
+
+/// Whether the driver at rest takes an isolated block away of which no frame is out.
+fn may_take_offline(parts: &Parts, seat: u32, block: BlockNo) -> bool
+    requires is { IsMachine parts.now }
+    ensures { IsTrue result ↔ MayTakeOffline (setting_of parts.now) seat (world_of parts.now) block }
+{
+    seat == 0
+        && rests(parts, 0)
+        && parts.space.is_isolated(block)
+        && !parts.space.is_offline(block)
+        && parts.space.out_after(block, None).is_none()
 }
 
 /// Whether the driver at rest puts a block online that it holds.
@@ -167,39 +227,68 @@ fn may_put_online(parts: &Parts, seat: u32, block: BlockNo) -> bool
     seat == 0 && rests(parts, 0) && is_held(parts, block)
 }
 
-/// Whether what is asked of the frame space may be asked.
-fn may_ask_space(parts: &Parts, seat: u32, call: &SpaceCall) -> bool
+/// Whether what the driver asks of the frame space of a block may be asked.
+fn may_ask_for_block(parts: &Parts, seat: u32, call: &BlockCall) -> bool
     requires is { IsMachine parts.now }
-    ensures { IsTrue result ↔ MayAskSpace (setting_of parts.now) seat (world_of parts.now) call.now }
+    ensures { IsTrue result ↔ MayAskForBlock (setting_of parts.now) seat (world_of parts.now) call.now }
 {
     match call {
-        SpaceCall::Lease { page, kind: _ } => may_lease(parts, seat, *page),
-        SpaceCall::Return { frame } => may_give_back(parts, seat, *frame),
-        SpaceCall::Online { block } => may_put_online(parts, seat, *block),
+        BlockCall::Isolate { block } => may_isolate(parts, seat, *block),
+        BlockCall::Target { block, after: _ } => may_lease_target(parts, seat, *block),
+        BlockCall::Undo { block } => may_undo(parts, seat, *block),
+        BlockCall::Offline { block } => may_take_offline(parts, seat, *block),
+        BlockCall::Online { block } => may_put_online(parts, seat, *block),
     }
 }
 
-/// Whether the bytes are a request that unplugs blocks.
-fn unplugs(bytes: &[u8]) -> bool
-    ensures { result ≡ unplugs (request_in bytes.now) }
+/// Whether the driver holds each of some blocks.
+fn are_held(parts: &Parts, first: BlockNo, n: u32) -> bool
+    requires is { IsMachine parts.now }
+    requires managed { first.0 + n ≤ parts.now.space.sizes.managed }
+    ensures { IsTrue result ↔ ((block : ℕ) → is_in block (range_with_len first.0 n) ≡ true → is_held (setting_of parts.now) (world_of parts.now) block ≡ true) }
 {
-    match read_request(bytes) {
-        Ok(Request::Plug { .. }) => false,
-        Ok(Request::Unplug { .. }) => true,
-        Ok(Request::UnplugAll) => true,
-        Ok(Request::State { .. }) => false,
-        Err(_) => false,
+    for block in first.0..first.0 + n {
+        if !is_held(parts, BlockNo(block)) {
+            return false;
+        }
     }
+    true
 }
 
-/// Whether the driver at rest sends a request that doesn't unplug.
+/// Whether the driver holds each plugged block.
+fn are_all_held(parts: &Parts) -> bool
+    requires is { IsMachine parts.now }
+    ensures { IsTrue result ↔ ((block : ℕ) → is_in block (device_now (setting_of parts.now) (world_of parts.now)).plugged ≡ true → is_held (setting_of parts.now) (world_of parts.now) block ≡ true) }
+{
+    let map = parts.device.plugged();
+    for block in 0..map.geometry().device_blocks() {
+        if map.plugged(BlockNo(block)) && !is_held(parts, BlockNo(block)) {
+            return false;
+        }
+    }
+    true
+}
+
+/// Whether the driver holds each of the plugged blocks that a request names that unplugs.
+fn are_named_held(parts: &Parts, bytes: &[u8]) -> bool
+    requires is { IsMachine parts.now }
+    ensures { IsTrue result ↔ ((block : ℕ) → is_in block (named_blocks (setting_of parts.now).sizes (device_now (setting_of parts.now) (world_of parts.now)).plugged (request_in bytes.now)) ≡ true → is_held (setting_of parts.now) (world_of parts.now) block ≡ true) }
+{
+    if is_unplug_all(bytes) {
+        return are_all_held(parts);
+    }
+    let (first, n) = named_range(parts.device.plugged(), bytes);
+    are_held(parts, first, n)
+}
+
+/// Whether the driver at rest sends a request, and holds what it unplugs.
 fn may_request(parts: &Parts, seat: u32, bytes: &RequestBytes) -> bool
     requires is { IsMachine parts.now }
     ensures { IsTrue result ↔ MayRequest (setting_of parts.now) seat (world_of parts.now) bytes.now }
 {
     // at most 64
     let sent = bytes.as_slice();
-    seat == 0 && rests(parts, 0) && !unplugs(sent)
+    seat == 0 && rests(parts, 0) && are_named_held(parts, sent)
 }
 
 /// Whether what is asked of the memory device may be asked.
@@ -222,6 +311,7 @@ pub(crate) fn is_allowed(parts: &Parts, seat: u32, action: &Action) -> bool
         Action::Step(step) => may_step(parts, seat, step),
         Action::Move(step) => may_change_mapping(parts, seat, step),
         Action::Space(call) => may_ask_space(parts, seat, call),
+        Action::Block(call) => may_ask_for_block(parts, seat, call),
         Action::Device(call) => may_ask_device(parts, seat, call),
         Action::Ended => true,
     }

@@ -4,6 +4,7 @@
 
 mod action;
 mod allowed;
+mod block_calls;
 mod device_calls;
 mod laws;
 mod machine;
@@ -13,6 +14,6 @@ mod parts;
 mod space_calls;
 mod steps;
 
-pub use action::{Action, DeviceCall, DeviceHeard, Heard, SpaceCall};
+pub use action::{Action, BlockCall, BlockHeard, DeviceCall, DeviceHeard, Heard, SpaceCall};
 pub use laws::{actions_keep_consistency, mapped_pages_are_plugged, starts_are_consistent};
 pub use machine::{Journals, Machine};

@@ -2,9 +2,10 @@
 
 use crate::action::{Action, DeviceCall, DeviceHeard, Heard, SpaceCall};
 use crate::allowed::is_allowed;
+use crate::block_calls::ask_for_block;
 use crate::device_calls::request;
 use crate::parts::Parts;
-use crate::space_calls::{give_back, lease, put_online};
+use crate::space_calls::{give_back, lease};
 use crate::steps::{change_mapping, step};
 use block_map::BlockMap;
 use core_state::Core;
@@ -43,7 +44,7 @@ impl Machine {
     ghost use Rattle.machine.specs.Consistent.{IsSetting, IsConsistent};
     ghost use Rattle.machine.specs.Made.{Made, made};
     ghost use Rattle.machine.specs.MachineInside.{IsMachine, state_of};
-    ghost use Rattle.machine.specs.MayMake.{MayMake};
+    ghost use Rattle.machine.specs.MayMake.{MayMake, TakesMemory};
     ghost use Rattle.machine.specs.World.{device_now};
 
     /// A machine of these parts.
@@ -54,16 +55,18 @@ impl Machine {
         Machine { parts }
     }
 
-    /// Makes an action of the actor on that seat, and gives what it hears. A lease takes the memory of the frame
-    /// space's journal, a request that of the device's; where there is none, nothing changes. A step takes none.
+    /// Makes an action of the actor on that seat, and gives what it hears. A lease and an isolation take the memory of the
+    /// frame space's journal, a request that of the device's, an UNPLUG_ALL that of a list of the plugged blocks besides,
+    /// and a take by the driver that of its notice; where there is none, nothing changes. Other actions take none.
     pub fn make(&mut self, seat: u32, action: &Action) -> Result<Heard, OutOfMemory>
         requires may { MayMake self.old.setting seat self.old.world action.now }
         ensures made { IfOk result (λ heard. let after : Made = record { world = self.new.world; heard = heard } in after ≡ made self.old.setting seat self.old.world action.now) }
         ensures setting { self.new.setting ≡ self.old.setting }
         ensures err { OnErr result (self.new ≡ self.old) }
+        ensures memory { OnErr result (TakesMemory seat action.now) }
     {
         match action {
-            Action::Step(at) => Ok(step(&mut self.parts, seat, *at)),
+            Action::Step(at) => step(&mut self.parts, seat, *at),
             Action::Move(at) => Ok(change_mapping(&mut self.parts, seat, *at)),
             Action::Space(SpaceCall::Lease { page, kind }) => {
                 lease(&mut self.parts, seat, *page, *kind)
@@ -71,7 +74,7 @@ impl Machine {
             Action::Space(SpaceCall::Return { frame }) => {
                 Ok(give_back(&mut self.parts, seat, *frame))
             }
-            Action::Space(SpaceCall::Online { block }) => Ok(put_online(&mut self.parts, *block)),
+            Action::Block(call) => ask_for_block(&mut self.parts, call),
             Action::Device(DeviceCall::Request { bytes }) => request(&mut self.parts, bytes),
             Action::Device(DeviceCall::Config) => Ok(Heard::Device(DeviceHeard::Config(
                 self.parts.device.config(),
@@ -81,7 +84,8 @@ impl Machine {
     }
 
     /// Whether the actor on that seat may make the action now. It takes no memory. A step that maps, remaps or
-    /// releases looks once at each cell of a page, any other action at none.
+    /// releases looks once at each cell of a page, any other action at none; taking a block away looks once at each of
+    /// its frames, and an UNPLUG at each block that it names.
     pub fn may_make(&self, seat: u32, action: &Action) -> bool
         ensures { IsTrue result ↔ MayMake self.now.setting seat self.now.world action.now }
     {
@@ -120,6 +124,7 @@ impl Machine {
             device,
             held: _held,
             owners: _,
+            alloc: _,
         } = parts;
         let journals = Journals {
             space: space.into_journal(),

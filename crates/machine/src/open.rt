@@ -46,6 +46,7 @@ impl Machine {
             device,
             held,
             owners: budgets.len() as u32,
+            alloc,
         }))
     }
 }

@@ -4,12 +4,13 @@ use crate::no_listener::NoListener;
 use core_state::Core;
 use mem_device::{BlockHand, Device, SureSlate};
 use space::Space;
+use std::alloc::Global;
 
 /// The memory device of a machine: no listener joins it yet, and its backing never fails.
 pub(crate) type MachineDevice = Device<NoListener, SureSlate, BlockHand>;
 
-/// The words and the views, the frame space, the memory device, the blocks that the driver holds, and the number of
-/// owners.
+/// The words and the views, the frame space, the memory device, the blocks that the driver holds, the number of
+/// owners, and where memory is taken.
 #[derive(Drop)]
 pub(crate) struct Parts {
     pub(crate) core: Core,
@@ -17,4 +18,5 @@ pub(crate) struct Parts {
     pub(crate) device: MachineDevice,
     pub(crate) held: BlockHand,
     pub(crate) owners: u32,
+    pub(crate) alloc: Global,
 }

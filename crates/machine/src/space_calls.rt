@@ -1,17 +1,16 @@
-//! What is asked of the frame space, each with the hand-over that goes with it.
+//! What is asked of the frame space for a page, each with the hand-over that goes with it.
 
 ghost use Rattle.std.specs.Prelude.{◌≡◌, IfOk, OnErr};
 ghost use Rattle.evac_model.specs.SpaceJournal.{lease_of};
-ghost use Rattle.machine.specs.Made.{lease_made, return_made, online_made};
+ghost use Rattle.machine.specs.Made.{lease_made, return_made};
 ghost use Rattle.machine.specs.MachineInside.{IsMachine, setting_of, world_of, state_of, made_of};
-ghost use Rattle.machine.specs.MayMake.{MayLease, MayReturn, MayPutOnline};
+ghost use Rattle.machine.specs.MayMake.{MayLease, MayReturn};
 ghost use Rattle.machine.specs.World.{space_now};
 
 use crate::action::Heard;
 use crate::parts::Parts;
 use core_moves::hand_over;
-use evac_model::{BlockNo, FrameNo, Kind, LeaseFault, OutOfMemory, PageNo};
-use mem_device::Held;
+use evac_model::{FrameNo, Kind, LeaseFault, OutOfMemory, PageNo};
 
 /// Leases a frame for a page to the owner on that seat: it goes from the free frames into its hand. Where there is no
 /// memory for the space's journal, nothing changes.
@@ -42,7 +41,7 @@ pub(crate) fn lease(
     }
 }
 
-/// Gives a frame back that the owner on that seat has in hand: it goes to the free frames.
+/// Gives a frame back that the driver or the owner on that seat has in hand: it goes to the free frames.
 pub(crate) fn give_back(parts: &mut Parts, seat: u32, frame: FrameNo) -> Heard
     requires is { IsMachine parts.old }
     requires may { MayReturn (setting_of parts.old) seat (world_of parts.old) frame }
@@ -53,22 +52,5 @@ pub(crate) fn give_back(parts: &mut Parts, seat: u32, frame: FrameNo) -> Heard
     let free = parts.owners + 2;
     hand_over(&mut parts.core, seat, free, frame, 1);
     parts.space.give_back(seat, frame);
-    Heard::Nothing
-}
-
-/// Puts a block online that the driver holds: its frames go from the driver's hand to the free ones.
-pub(crate) fn put_online(parts: &mut Parts, block: BlockNo) -> Heard
-    requires is { IsMachine parts.old }
-    requires may { MayPutOnline (setting_of parts.old) 0 (world_of parts.old) block }
-    ensures made { made_of parts.new result ≡ online_made (setting_of parts.old) (world_of parts.old) block }
-    ensures is { IsMachine parts.new }
-    ensures setting { setting_of parts.new ≡ setting_of parts.old }
-{
-    let free = parts.owners + 2;
-    let g = parts.space.geometry();
-    let _ = parts.held.part(block, 1);
-    let (frame, _) = g.frames_of(block);
-    hand_over(&mut parts.core, 0, free, frame, g.block());
-    parts.space.online(block);
     Heard::Nothing
 }

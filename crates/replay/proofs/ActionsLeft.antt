@@ -72,6 +72,7 @@ finds_taken_or_not : (x : Action) (found : ℕ) → FindsTaken x found ⊎ ¬ Fi
 finds_taken_or_not (actions.Step step) found = step_finds_taken_or_not step found
 finds_taken_or_not (actions.Move step) found = inr (λ h. h)
 finds_taken_or_not (actions.Space call) found = inr (λ h. h)
+finds_taken_or_not (actions.Block call) found = inr (λ h. h)
 finds_taken_or_not (actions.Device call) found = inr (λ h. h)
 finds_taken_or_not actions.Ended found = inr (λ h. h)
 
@@ -86,6 +87,7 @@ module _ (c : Setting) (seat : ℕ) (w : World) where
   finds_what_it_hears (actions.Step (Release end)) word e taken = taken
   finds_what_it_hears (actions.Move step) word e taken = taken
   finds_what_it_hears (actions.Space call) word e taken = taken
+  finds_what_it_hears (actions.Block call) word e taken = taken
   finds_what_it_hears (actions.Device call) word e taken = taken
   finds_what_it_hears actions.Ended word e taken = taken
 
@@ -99,6 +101,7 @@ module _ (c : Setting) (seat : ℕ) (w : World) where
   take_again a (actions.Step (Release end)) is taken = absurd taken
   take_again a (actions.Move step) is taken = absurd taken
   take_again a (actions.Space call) is taken = absurd taken
+  take_again a (actions.Block call) is taken = absurd taken
   take_again a (actions.Device call) is taken = absurd taken
   take_again a actions.Ended is taken = absurd taken
 

@@ -38,7 +38,7 @@ use Rattle.replay.specs.CallsMade.{AreOwnersCallsMade}
 use Rattle.replay.specs.Keeping.{IsInOrder}
 use Rattle.replay.proofs.CallsKept.{IsAlike, calls_alike}
 use Rattle.replay.proofs.CallEnds.{calls_released}
-use Rattle.replay.proofs.OutKept.{move_goes_on}
+use Rattle.replay.proofs.OutAlong.{move_goes_on}
 
 module _ (owner cells : ℕ) where
   abbrev state : Place → List (PageNo × Call) → OwnerState

@@ -25,7 +25,7 @@ use Rattle.space.specs.JournaledSpace.{JournaledSpace}
 use Rattle.space.proofs.Leases.{refused_none}
 use Rattle.machine.specs.declared.action.Action.{Action}
 use Rattle.machine.specs.declared.action.Action.TheVariants as actions
-use Rattle.machine.specs.declared.action.SpaceCall.TheVariants.{Lease, Return, Online}
+use Rattle.machine.specs.declared.action.SpaceCall.TheVariants.{Lease, Return}
 use Rattle.machine.specs.Made.{Made, step_made, move_made, lease_made, return_made, made}
 use Rattle.machine.specs.MayMake.{MayMake}
 use Rattle.machine.specs.World.{World, free_seat, space_now}
@@ -139,7 +139,7 @@ module _ (s : Scenario) (m : Running) (r : IsRunnable s) (kept : IsKept s m) (i 
   calls_behind (actions.Move step) is = calls_move step is
   calls_behind (actions.Space (Lease page kind)) is = calls_lease page kind is (lease_of s.geometry (online_of s) (space_now (setting s) m.world) (suc i) kind) refl
   calls_behind (actions.Space (Return frame)) is = calls_return frame is
-  calls_behind (actions.Space (Online block)) is = absurd (owners_action a (actions.Space (Online block)) going is)
+  calls_behind (actions.Block call) is = absurd (owners_action a (actions.Block call) going is)
   calls_behind (actions.Device call) is = absurd (owners_action a (actions.Device call) going is)
   calls_behind actions.Ended is = absurd (owners_action a actions.Ended going is)
 

@@ -1,6 +1,6 @@
 -- What the host and the memory device have done, and what is still to come, is what the commands do: at the start,
 -- and after each turn of each actor.
-use Rattle.std.proofs.Common.{◌≡◌, ◌≢◌, ℕ, zero, suc, ◌+◌, ◌-◌, ◌<◌, ◌≤◌, ◌==◌, Bool, true, false, not, ◌&&◌, ◌||◌, if◌then◌else◌, List, [], ◌∷◌, ◌++◌, length, append_assoc, append-nil, refl, sym, ap, ◌∙◌, subst, arith, Option, Some, None}
+use Rattle.std.proofs.Common.{◌≡◌, ◌≢◌, ℕ, zero, suc, ◌+◌, ◌-◌, ◌<◌, ◌≤◌, ◌==◌, Bool, true, false, if◌then◌else◌, List, [], ◌∷◌, ◌++◌, length, append_assoc, append-nil, refl, sym, ap, ◌∙◌, subst, arith, Option, Some, None}
 use Rattle.std.specs.List.{AllByRecursion}
 use Rattle.std.proofs.lemmas.Bool.{eqb-true, eqb-false}
 use Rattle.evac_model.specs.declared.device_journal.DeviceAction.{DeviceAction}
@@ -17,10 +17,9 @@ use Rattle.evac_model.specs.declared.scenario.Actor.{Actor}
 use Rattle.evac_model.specs.declared.scenario.Scenario.{Scenario}
 use Rattle.evac_model.specs.declared.space.SpaceAction.{SpaceAction}
 use Rattle.evac_model.specs.declared.space.SpaceAction.TheVariants as space
-use Rattle.evac_model.specs.Geometry.{Sizes, first_frame}
+use Rattle.evac_model.specs.Geometry.{Sizes}
 use Rattle.evac_model.specs.DeviceAnswer.{DeviceState, request_in, device_at_start, config_of}
-use Rattle.evac_model.specs.HostCommands.{BlockRange, no_blocks, blocks_of, onlines_of, answer_to, request_action, plugged_by, command_result, command_actions, command_range, after_command, host_actions, host_onlines, host_lines}
-use Rattle.evac_model.specs.Numbers.{is_in}
+use Rattle.evac_model.specs.HostCommands.{BlockRange, no_blocks, onlines_of, answer_to, request_action, plugged_by, command_result, command_actions, command_range, after_command, host_actions, host_onlines, host_lines}
 use Rattle.evac_model.specs.Pairing.{caller_of, actions_of}
 use Rattle.evac_model.specs.Scenarios.{IsHostCommand, IsRunnable}
 use Rattle.evac_model.specs.ScenarioGrammar.{online_of}
@@ -29,28 +28,27 @@ use Rattle.core_state.specs.declared.snapshot.Snapshot.{Snapshot}
 use Rattle.mem_device.proofs.Journals.{device_after-push}
 use Rattle.machine.specs.declared.action.Action.{Action}
 use Rattle.machine.specs.declared.action.Action.TheVariants as actions
-use Rattle.machine.specs.declared.action.DeviceCall.TheVariants as device_calls
+use Rattle.machine.specs.declared.action.BlockCall.TheVariants.{Online}
 use Rattle.machine.specs.declared.action.DeviceHeard.TheVariants as device_heard
 use Rattle.machine.specs.declared.action.Heard.{Heard}
 use Rattle.machine.specs.declared.action.Heard.TheVariants as heard
-use Rattle.machine.specs.declared.action.SpaceCall.TheVariants.{Lease, Return, Online}
-use Rattle.machine.specs.Made.{Made, handed_frames, handed_blocks, lease_made, made}
-use Rattle.machine.specs.MayMake.{MayPutOnline, MayRequest, MayMake}
-use Rattle.machine.specs.World.{free_seat, unplugged_seat, space_now, device_at, device_now, is_held}
+use Rattle.machine.specs.declared.action.SpaceCall.TheVariants.{Lease, Return}
+use Rattle.machine.specs.Made.{Made, lease_made, online_made, request_made, made}
+use Rattle.machine.specs.MayMake.{MayMake}
+use Rattle.machine.specs.World.{space_now, device_at, is_held}
 use Rattle.machine.proofs.Elsewhere.{held_stays}
-use Rattle.machine.proofs.OnlinesKept.{held_online}
 use Rattle.machine.proofs.Opened.{opened_none}
-use Rattle.machine.proofs.RequestsKept.{held_request}
 use Rattle.core_actors.specs.Hosts.{HostState, action_for, device_call, has_none, host_after, line_after, with_result, line_with, command_ended, but_first, to_ask, plugged_in, IsHostUnderWay}
-use Rattle.core_actors.specs.Owners.{OwnerState, next_action}
+use Rattle.core_actors.specs.Owners.{OwnerState, owner_ended, next_action}
+use Rattle.core_actors.proofs.Asks.{IsOwners, owners_action}
 use Rattle.core_actors.proofs.HostCounts.{plugged_in_within}
 use Rattle.core_actors.proofs.HostPlaces.{online_next, state_heard, line_heard_is}
 use Rattle.replay.specs.HostKept.{line_of_result, next_number, IsHostKept}
 use Rattle.replay.specs.Keeping.{IsKept}
-use Rattle.replay.specs.Running.{Running, line_list, owner_of, owner_acted, host_acted, after_turn}
+use Rattle.replay.specs.Running.{Running, line_list, owner_of, owner_acted, after_turn}
 use Rattle.replay.specs.Runs.{setting, budgets_of, running_at_start}
 use Rattle.replay.proofs.Acting.{setting_fits, owner_seat, may_act, host_may_act}
-use Rattle.replay.proofs.HostBlocks.{IsAsking, IsPutting, blocks_asking, blocks_answered, blocks_configured, blocks_put, is_in-but_first}
+use Rattle.replay.proofs.HostHolds.{Behind, AreHeld, held_requested, held_configured, held_put}
 use Rattle.replay.proofs.MadeLists.{own_push, other_push}
 use Rattle.replay.proofs.TurnCases.{turn_cases}
 
@@ -115,42 +113,6 @@ first_online first n =
     let rest : suc n - 1 ≡ n = omega arith in
     ap (λ (k : ℕ). space.Online (record { 0 = first }) ∷ onlines_of (record { first = k; count = n })) next
     ∙ ap (λ (k : ℕ). space.Online (record { 0 = first }) ∷ onlines_of (record { first = suc first; count = k })) (sym rest)
-
--- ---- the blocks that the driver holds
-
--- the run behind an action of the host
-abbrev Behind : Scenario → Running → Action → Running
-Behind s m x = host_acted m (made (setting s) 0 m.world x)
-
--- the blocks that are to be put online are those that the driver holds
-abbrev AreHeld : Scenario → Running → Type 0
-AreHeld s m = (block : ℕ) → is_in block (blocks_of m.host.online) ≡ is_held (setting s) m.world block
-
-module _ (s : Scenario) (m : Running) (r : IsRunnable s) (k : IsKept s m) where
-  -- before the host asks it holds none
-  none_held : (c : HostCommand) → IsAsking m.host c → (block : ℕ) → is_held (setting s) m.world block ≡ false
-  none_held c q block = sym (k.host.held block) ∙ ap (λ (l : List ℕ). is_in block l) (blocks_asking m.host c q)
-
-  held_requested : (bytes : List ℕ) → IsAsking m.host (commands.Request bytes) → MayRequest (setting s) 0 m.world bytes → AreHeld s (Behind s m (actions.Device (device_calls.Request bytes)))
-  held_requested bytes q may block =
-      let response : Response = answer_to s.geometry (device_now (setting s) m.world) bytes in
-      ap (λ (l : List ℕ). is_in block l) (blocks_answered m.host bytes response q)
-      ∙ (ap (λ (g : Sizes). is_in block (blocks_of (plugged_by g (request_in bytes) response))) k.host.sizes
-      ∙ (sym (ap (λ (t : Bool). t || is_in block (blocks_of (plugged_by s.geometry (request_in bytes) response))) (none_held (commands.Request bytes) q block))
-      ∙ sym (held_request (setting s) m.world bytes (setting_fits s r) k.world may block)))
-
-  held_configured : IsAsking m.host commands.Config → AreHeld s (Behind s m (actions.Device device_calls.Config))
-  held_configured q block =
-      ap (λ (l : List ℕ). is_in block l) (blocks_configured m.host (config_of s.geometry (device_now (setting s) m.world)) q)
-      ∙ sym (none_held commands.Config q block)
-
-  held_put : (b : BlockNo) → IsPutting m.host b → MayPutOnline (setting s) 0 m.world b → AreHeld s (Behind s m (actions.Space (Online b)))
-  held_put b q may block =
-      ap (λ (l : List ℕ). is_in block l) (blocks_put m.host b heard.Nothing q)
-      ∙ (is_in-but_first m.host.online block q.some
-      ∙ (ap (λ (n : ℕ). is_in block (blocks_of m.host.online) && not (block == n)) (sym q.first)
-      ∙ (ap (λ (t : Bool). t && not (block == b.0)) (k.host.held block)
-      ∙ sym (held_online (setting s) m.world b (setting_fits s r) k.world may block))))
 
 -- ---- the host's actions
 
@@ -228,7 +190,7 @@ module _ (s : Scenario) (run : IsRunnable s) (snapshot : Snapshot) (owners : Lis
       let now : HostState = host (c ∷ cs) None (record { first = first; count = 0 }) in
       let here : Running = Here (c ∷ cs) None (record { first = first; count = 0 }) in
       let told : Heard = heard.Device (device_heard.Answered response) in
-      asked c cs first k.host (handed_blocks g snapshot (unplugged_seat (setting s)) 0 (plugged_by g (request_in bytes) response)) (host_after now told) (line_after now told) (device ++ request_action bytes response ∷ [])
+      asked c cs first k.host (request_made (setting s) here.world bytes response).world.snapshot (host_after now told) (line_after now told) (device ++ request_action bytes response ∷ [])
       (subst (λ (r : BlockRange). HasResult sizes number c cs given r (host_after now told) (line_after now told))
       (ap (λ (z : Sizes). plugged_by z (request_in bytes) response) k.host.sizes)
       (has_result sizes number c cs None (record { first = first; count = 0 }) given (plugged_in sizes c given) (plugged_in_within sizes c given)))
@@ -248,10 +210,10 @@ module _ (s : Scenario) (run : IsRunnable s) (snapshot : Snapshot) (owners : Lis
       let now : HostState = host (c ∷ cs) (Some given) r in
       let here : Running = Here (c ∷ cs) (Some given) r in
       let b : BlockNo = record { 0 = first } in
-      let next : actions.Space (Online b) ≡ action_for (c ∷ cs) r = online_next now first refl (omega arith) refl in
+      let next : actions.Block (Online b) ≡ action_for (c ∷ cs) r = online_next now first refl (omega arith) refl in
       let within = k.host.under_way.managed in
       subst (λ (x : Action). IsHostKept s (Behind s here x)) next
-      (put_online c cs given first n k.host (handed_frames snapshot 0 (free_seat (setting s)) (first_frame g first) g.block) (host_after now heard.Nothing) (line_after now heard.Nothing)
+      (put_online c cs given first n k.host (online_made (setting s) here.world b).world.snapshot (host_after now heard.Nothing) (line_after now heard.Nothing)
       (subst (λ (a : HostState). HasResult sizes number c cs given (but_first r) a (line_after now heard.Nothing))
       (state_heard now heard.Nothing given (suc first) (suc n - 1) refl (omega arith) refl (omega arith) refl)
       (subst (λ (line : Option HostLine). HasResult sizes number c cs given (but_first r) (with_result now given (but_first r)) line)
@@ -296,23 +258,27 @@ module _ (s : Scenario) (m : Running) (r : IsRunnable s) (k : IsKept s m) (i : �
   leased page kind (Some l) still =
       longer (lease_made (setting s) (suc i) m.world page kind (Some l)) refl (pushed (space.Lease (suc i) (record { 0 = l.frame }) page kind) refl) still
 
-  by_action : (x : Action) → MayMake (setting s) (suc i) m.world x → IsHostKept s (owner_acted m (suc i) (made (setting s) (suc i) m.world x))
-  by_action (actions.Step step) may = longer (made (setting s) (suc i) m.world (actions.Step step)) refl refl (held_still (actions.Step step) may)
-  by_action (actions.Move step) may = longer (made (setting s) (suc i) m.world (actions.Move step)) refl refl (held_still (actions.Move step) may)
-  by_action (actions.Space (Lease page kind)) may =
+  by_action : (x : Action) → IsOwners x → MayMake (setting s) (suc i) m.world x → IsHostKept s (owner_acted m (suc i) (made (setting s) (suc i) m.world x))
+  by_action (actions.Step step) its may = longer (made (setting s) (suc i) m.world (actions.Step step)) refl refl (held_still (actions.Step step) may)
+  by_action (actions.Move step) its may = longer (made (setting s) (suc i) m.world (actions.Move step)) refl refl (held_still (actions.Move step) may)
+  by_action (actions.Space (Lease page kind)) its may =
       leased page kind (lease_of s.geometry (online_of s) (space_now (setting s) m.world) (suc i) kind) (held_still (actions.Space (Lease page kind)) may)
-  by_action (actions.Space (Return frame)) may =
+  by_action (actions.Space (Return frame)) its may =
       longer (made (setting s) (suc i) m.world (actions.Space (Return frame))) refl (pushed (space.Return (suc i) frame) refl) (held_still (actions.Space (Return frame)) may)
-  by_action (actions.Space (Online block)) may = absurd (let e = may.driver in omega arith)
-  by_action (actions.Device (device_calls.Request bytes)) may = absurd (let e = may.driver in omega arith)
-  by_action (actions.Device device_calls.Config) may = longer (made (setting s) (suc i) m.world (actions.Device device_calls.Config)) refl refl (held_still (actions.Device device_calls.Config) may)
-  by_action actions.Ended may = longer (made (setting s) (suc i) m.world actions.Ended) refl refl (held_still actions.Ended may)
+  by_action (actions.Block call) its may = absurd its
+  by_action (actions.Device call) its may = absurd its
+  by_action actions.Ended its may = absurd its
+
+  owner_acts : owner_ended (owner_of m.owners (suc i)) ≡ false → IsHostKept s (owner_acted m (suc i) (made (setting s) (suc i) m.world (next_action (owner_of m.owners (suc i)))))
+  owner_acts going =
+      let a : OwnerState = owner_of m.owners (suc i) in
+      by_action (next_action a) (owners_action a (next_action a) going refl) (may_act s m i r k below going)
 
 -- ---- a turn
 
 pub host_kept : (s : Scenario) (m : Running) (actor : Actor) → IsRunnable s → IsKept s m → IsHostKept s (after_turn (setting s) m actor)
 host_kept s m actor r k = turn_cases (setting s) m (IsHostKept s) k.host
-    (λ i below going. by_action s m r k i below (next_action (owner_of m.owners (suc i))) (may_act s m i r k below going))
+    (λ i below going. owner_acts s m r k i below going)
     (λ going. action_kept s r m.world.snapshot m.owners m.world.space m.lines m.world.device m.host.sizes m.host.number m.host.left m.host.result m.host.online.first m.host.online.count going k) actor
 
 -- ---- the start

@@ -10,6 +10,9 @@ pub mod SeatsInPlace
 pub mod Acting
 pub mod HostSeatsKept
 pub mod SeatTurns
+pub mod OutAlong
+pub mod PlainRequests
+pub mod HostFrames
 pub mod OutKept
 pub mod MadeLists
 pub mod CallsKept
@@ -17,6 +20,7 @@ pub mod CallEnds
 pub mod CallLeases
 pub mod CallSteps
 pub mod CallPlaces
+pub mod HostHolds
 pub mod HostRuns
 pub mod CallTurns
 pub mod Starts

@@ -1,5 +1,5 @@
 -- Entries at the places of their tickets.
-use Rattle.std.proofs.Common.{◌≡◌, ℕ, zero, suc, cond, Bool, ◌+◌, ◌<◌, drop, take, replicate, List, [], ◌∷◌, ◌++◌, length, length-set, get_or, get_or-set_same, get_or-set_other, eq-eqb, ne_eqb, Option, Some, None, IsSome, refl, ap, sym, ◌∙◌, arith}
+use Rattle.std.proofs.Common.{◌≡◌, ℕ, zero, suc, cond, Bool, ◌<◌, drop, take, replicate, List, [], ◌∷◌, ◌++◌, length, length-set, get_or, get_or-set_same, get_or-set_other, eq-eqb, ne_eqb, Option, Some, None, IsSome, refl, ap, sym, ◌∙◌, arith}
 use Rattle.std.specs.List.{slice_get, flat_map}
 use Rattle.std.proofs.lemmas.List.{take-append-le, length-replicate, get_or-replicate}
 use Rattle.std.proofs.lemmas.Option.{none-some}
@@ -12,14 +12,6 @@ use Rattle.core_state.specs.Pages.{or_else, entry_in, entry_with}
 use Rattle.replay.specs.Entries.{first_of, place_at, placed, all_placed}
 
 -- ---- one after another
-
-pub placed-first : (places : List (List Entry)) (es : List Entry) → placed (placed places (take 1 es)) (drop 1 es) ≡ placed places es
-placed-first places [] = refl
-placed-first places (e ∷ es) = refl
-
-pub placed-none : (places : List (List Entry)) (es : List Entry) → length es ≡ 0 → placed places es ≡ places
-placed-none places [] none = refl
-placed-none places (e ∷ es) none = absurd (omega arith)
 
 pub length-placed : (places : List (List Entry)) (es : List Entry) → length (placed places es) ≡ length places
 length-placed places [] = refl

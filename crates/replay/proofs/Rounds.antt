@@ -118,6 +118,7 @@ module _ (s : Scenario) (m : Running) (kept : IsKept s m) where
     finds_free i a (actions.Step (Release end)) at going is = λ h. h
     finds_free i a (actions.Move step) at going is = λ h. h
     finds_free i a (actions.Space call) at going is = λ h. h
+    finds_free i a (actions.Block call) at going is = λ h. h
     finds_free i a (actions.Device call) at going is = λ h. h
     finds_free i a actions.Ended at going is = λ h. h
 

@@ -27,7 +27,7 @@ use Rattle.core_state.proofs.Rooms.{seat_has}
 use Rattle.core_state.proofs.SeatSteps.{hand_room}
 use Rattle.machine.specs.declared.action.Action.{Action}
 use Rattle.machine.specs.declared.action.Action.TheVariants as actions
-use Rattle.machine.specs.declared.action.SpaceCall.TheVariants.{Lease, Return, Online}
+use Rattle.machine.specs.declared.action.SpaceCall.TheVariants.{Lease, Return}
 use Rattle.machine.specs.Made.{Made, step_made, move_made, lease_made, return_made, made}
 use Rattle.machine.specs.MayMake.{MayStep, MayLease, MayMake}
 use Rattle.machine.specs.World.{free_seat, space_now}
@@ -140,7 +140,7 @@ module _ (s : Scenario) (m : Running) (r : IsRunnable s) (kept : IsKept s m) (i 
   seat_behind (actions.Move step) is may = seat_move step is
   seat_behind (actions.Space (Lease page kind)) is may = seat_lease page kind is may (lease_of s.geometry (online_of s) (space_now (setting s) m.world) (suc i) kind) refl
   seat_behind (actions.Space (Return frame)) is may = seat_return frame is
-  seat_behind (actions.Space (Online block)) is may = absurd (owners_action actor (actions.Space (Online block)) going is)
+  seat_behind (actions.Block call) is may = absurd (owners_action actor (actions.Block call) going is)
   seat_behind (actions.Device call) is may = absurd (owners_action actor (actions.Device call) going is)
   seat_behind actions.Ended is may = absurd (owners_action actor actions.Ended going is)
 

@@ -31,6 +31,7 @@ abbrev pub found_by : Setting → (seat : ℕ) → World → Action → ℕ
 found_by c seat w (actions.Step step) = word_found c.opening w.snapshot.words (view_of w.snapshot.views seat) step
 found_by c seat w (actions.Move step) = 0
 found_by c seat w (actions.Space call) = 0
+found_by c seat w (actions.Block call) = 0
 found_by c seat w (actions.Device call) = 0
 found_by c seat w actions.Ended = 0
 

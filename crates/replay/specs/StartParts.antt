@@ -1,5 +1,5 @@
 -- The parts of a run at its start.
-use Rattle.std.specs.Prelude.{◌≡◌, List, None}
+use Rattle.std.specs.Prelude.{◌≡◌, List}
 use Rattle.evac_model.specs.declared.scenario.Scenario.{Scenario}
 use Rattle.evac_model.specs.Scenarios.{IsRunnable}
 use Rattle.core_actors.specs.Hosts.{HostView, host_at_start}

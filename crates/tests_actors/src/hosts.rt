@@ -1,7 +1,7 @@
 //! Commands of hosts, with the actions of each counted by hand.
 
 use crate::NOBODY;
-use core_actors::{Action, DeviceCall, DeviceHeard, Heard, Host, SpaceCall};
+use core_actors::{Action, BlockCall, DeviceCall, DeviceHeard, Heard, Host};
 use evac_model::{
     BlockNo, CommandList, Config, Geometry, HostCommand, HostLine, HostResult, RequestBytes,
     Response,
@@ -42,7 +42,7 @@ fn send(bytes: RequestBytes) -> Action {
 /// A block is put online.
 fn online(block: u32) -> Action {
     let block = BlockNo(block);
-    Action::Space(SpaceCall::Online { block })
+    Action::Block(BlockCall::Online { block })
 }
 
 /// The device answered this.

@@ -1,4 +1,4 @@
-use Rattle.std.proofs.Common.{◌≡◌, ℕ, ◌≤◌, List, length, false, true, ⊎_elim, subst, sym, ap, ◌∙◌, arith}
+use Rattle.std.proofs.Common.{◌≡◌, ℕ, ◌≤◌, length, false, true, ⊎_elim, subst, sym, ap, ◌∙◌, arith}
 use Rattle.evac_model.specs.ScenarioGrammar.{IsRefused}
 use Rattle.evac.specs.Input.{input_limit, IsRefusedInput}
 use Rattle.evac.proofs.Inputs.{all_given, of_told}

@@ -3,17 +3,14 @@ use Rattle.evac_model.specs.declared.names.FrameNo.{FrameNo}
 use Rattle.evac_model.specs.declared.space.SpaceAction.TheVariants as space
 use Rattle.core_state.specs.CoreState.{CoreState}
 use Rattle.space.specs.JournaledSpace.{JournaledSpace, with_action}
-use Rattle.machine.specs.declared.action.Action.TheVariants as actions
 use Rattle.machine.specs.declared.action.Heard.TheVariants.{Nothing}
-use Rattle.machine.specs.declared.action.SpaceCall.TheVariants as calls
 use Rattle.machine.specs.declared.parts.Parts.{Parts}
 use Rattle.machine.specs.Made.{return_made, handed}
 use Rattle.machine.specs.MachineInside.{IsMachine, setting_of, world_of, made_of}
 use Rattle.machine.specs.MayMake.{MayReturn}
 use Rattle.machine.specs.World.{Setting, World, free_seat}
-use Rattle.machine.proofs.Elsewhere.{held_stays}
 use Rattle.machine.proofs.PartsKept.{machine_again, setting_again, made_again}
-use Rattle.machine.proofs.ReturnsKept.{return_kept}
+use Rattle.machine.proofs.ReturnsKept.{return_kept, return_held}
 use Rattle.machine.proofs.space_calls.give_back.Goals as goal
 
 module _ (a : Parts) (seat : ℕ) (frame : FrameNo) (is : IsMachine a) (may : MayReturn (setting_of a) seat (world_of a) frame)
@@ -38,7 +35,7 @@ module _ (a : Parts) (seat : ℕ) (frame : FrameNo) (is : IsMachine a) (may : Ma
   returned_machine =
       machine_again a b Nothing (return_made s seat w frame) is returned_setting refl refl returned_made
       (return_kept s seat w frame is.set is.consistent may)
-      (held_stays s seat w (actions.Space (calls.Return frame)) is.set is.consistent may may.owner)
+      (return_held s seat w frame is.set is.consistent may)
 
 pub returns-clause-is : goal.returns-clause-is
 returns-clause-is c =

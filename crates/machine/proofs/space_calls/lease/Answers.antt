@@ -1,32 +1,25 @@
-use Rattle.std.proofs.Common.{◌≡◌, ℕ, length, refl, sym, ap, ◌∙◌, subst, Option, Some, None}
+use Rattle.std.proofs.Common.{◌≡◌, ℕ, length, refl, sym, ap, ◌∙◌, subst, Option, Some}
 use Rattle.evac_model.specs.declared.names.FrameNo.{FrameNo}
 use Rattle.evac_model.specs.declared.names.Kind.{Kind}
 use Rattle.evac_model.specs.declared.names.PageNo.{PageNo}
 use Rattle.evac_model.specs.declared.space.SpaceAction.TheVariants as space
-use Rattle.evac_model.specs.SpaceJournal.{Leased, lease_of, Chooses, IsPossible}
+use Rattle.evac_model.specs.SpaceJournal.{Leased, lease_of, IsPossible}
 use Rattle.core_state.specs.CoreState.{CoreState}
 use Rattle.core_state.specs.HandOvers.{MayHandOver}
 use Rattle.core_state.specs.Views.{view_of}
 use Rattle.space.specs.JournaledSpace.{JournaledSpace, space_state, with_action, IsLeasableFor}
 use Rattle.space.proofs.Leases.{refused_none}
-use Rattle.machine.specs.declared.action.Action.TheVariants as actions
+use Rattle.space.proofs.LeasesKept.{IsLeaseOf, lease_chosen}
 use Rattle.machine.specs.declared.action.Heard.TheVariants as heard
-use Rattle.machine.specs.declared.action.SpaceCall.TheVariants as calls
 use Rattle.machine.specs.declared.parts.Parts.{Parts}
 use Rattle.machine.specs.Made.{Made, lease_made, handed}
 use Rattle.machine.specs.MachineInside.{IsMachine, setting_of, world_of, made_of}
 use Rattle.machine.specs.MayMake.{MayLease}
 use Rattle.machine.specs.World.{Setting, World, free_seat, space_now}
-use Rattle.machine.proofs.Elsewhere.{held_stays}
-use Rattle.machine.proofs.LeasesKept.{lease_hands, lease_kept}
+use Rattle.machine.proofs.LeasesKept.{lease_hands, lease_kept, lease_held}
 use Rattle.machine.proofs.PartsKept.{machine_again, setting_again, made_again}
 use Rattle.machine.proofs.SpaceNow.{space_is}
 use Rattle.machine.proofs.space_calls.lease.Goals as goal
-
--- the lease that the rules choose, where it gives this frame
-chosen_lease : (m : Option Leased) (frame : ℕ) → Chooses m frame → (l : Leased) × (m ≡ Some l) × (l.frame ≡ frame)
-chosen_lease None frame is = absurd is
-chosen_lease (Some l) frame is = (l, refl, is)
 
 module _ (a : Parts) (seat : ℕ) (page : PageNo) (kind : Kind) (is : IsMachine a) (may : MayLease (setting_of a) seat (world_of a) page) where
   abbrev s : Setting
@@ -41,18 +34,18 @@ module _ (a : Parts) (seat : ℕ) (page : PageNo) (kind : Kind) (is : IsMachine 
   -- ---- a frame was leased
 
   module _ (frame : FrameNo) (possible : IsPossible a.space.sizes a.space.online (space_state a.space) (space.Lease seat frame page kind)) where
-    given : (l : Leased) × (chosen ≡ Some l) × (l.frame ≡ frame.0)
-    given = chosen_lease chosen frame.0 possible.2
+    given : IsLeaseOf chosen frame.0
+    given = lease_chosen chosen frame.0 possible.2
 
     leased_hands : MayHandOver s.opening (view_of w.snapshot.views (free_seat s)) (view_of w.snapshot.views seat) frame.0 1
     leased_hands =
-        subst (λ (f : ℕ). MayHandOver s.opening (view_of w.snapshot.views (free_seat s)) (view_of w.snapshot.views seat) f 1) given.2
-        (lease_hands s seat w page kind given.0 is.set is.consistent may given.1)
+        subst (λ (f : ℕ). MayHandOver s.opening (view_of w.snapshot.views (free_seat s)) (view_of w.snapshot.views seat) f 1) given.gave
+        (lease_hands s seat w page kind given.leased is.set is.consistent may given.is)
 
-    leased_so : lease_made s seat w page kind chosen ≡ lease_made s seat w page kind (Some (record { frame = frame.0; caches = (given.0).caches }))
+    leased_so : lease_made s seat w page kind chosen ≡ lease_made s seat w page kind (Some (record { frame = frame.0; caches = given.leased.caches }))
     leased_so =
-        ap (λ (m : Option Leased). lease_made s seat w page kind m) given.1
-        ∙ ap (λ (f : ℕ). lease_made s seat w page kind (Some (record { frame = f; caches = (given.0).caches }))) given.2
+        ap (λ (m : Option Leased). lease_made s seat w page kind m) given.is
+        ∙ ap (λ (f : ℕ). lease_made s seat w page kind (Some (record { frame = f; caches = given.leased.caches }))) given.gave
 
     module _ (core : CoreState) (sp : JournaledSpace) (opening : core.opening ≡ a.core.opening) (snapshot : core.snapshot ≡ handed w.snapshot (free_seat s) seat frame.0)
         (taken : sp ≡ with_action (space.Lease seat frame page kind) a.space) where
@@ -69,7 +62,7 @@ module _ (a : Parts) (seat : ℕ) (page : PageNo) (kind : Kind) (is : IsMachine 
       leased_machine =
           machine_again a b (heard.Leased frame) (lease_made s seat w page kind chosen) is leased_setting refl refl leased_made
           (lease_kept s seat w page kind chosen is.set is.consistent may refl)
-          (held_stays s seat w (actions.Space (calls.Lease page kind)) is.set is.consistent may may.owner)
+          (lease_held s seat w page kind chosen is.set is.consistent may refl)
 
   -- ---- none was leased
 

@@ -5,7 +5,7 @@ use Rattle.machine.proofs.machine.Machine.open.Goals as goal
 
 pub from_parts-requires : goal.from_parts-requires
 from_parts-requires c =
-    let a : Parts = record { core = c.in_ok-core.core; space = c.in_ok-space.space; device = c.in_ok-device.device; held = c.in_ok-held.held; owners = length c.args.budgets.now } in
+    let a : Parts = record { core = c.in_ok-core.core; space = c.in_ok-space.space; device = c.in_ok-device.device; held = c.in_ok-held.held; owners = length c.args.budgets.now; alloc = c.args.alloc } in
     let p : AreStartParts a c.args.g c.args.online c.args.start.now c.args.budgets.now = record {
       opening = c.in_ok-core.ensures.opening;
       words = c.in_ok-core.ensures.words;

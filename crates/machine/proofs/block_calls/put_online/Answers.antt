@@ -3,8 +3,6 @@ use Rattle.evac_model.specs.declared.names.BlockNo.{BlockNo}
 use Rattle.evac_model.specs.declared.space.SpaceAction.TheVariants as space
 use Rattle.evac_model.specs.Geometry.{Sizes, first_frame}
 use Rattle.core_state.specs.CoreState.{CoreState}
-use Rattle.core_state.specs.HandOvers.{MayHandOver}
-use Rattle.core_state.specs.Views.{view_of}
 use Rattle.space.specs.JournaledSpace.{JournaledSpace, with_action}
 use Rattle.machine.specs.declared.action.Heard.TheVariants.{Nothing}
 use Rattle.machine.specs.declared.parts.Parts.{Parts}
@@ -12,39 +10,25 @@ use Rattle.machine.specs.Made.{Made, handed_frames, online_made}
 use Rattle.machine.specs.MachineInside.{IsMachine, setting_of, world_of}
 use Rattle.machine.specs.MayMake.{MayPutOnline}
 use Rattle.machine.specs.World.{free_seat}
-use Rattle.machine.proofs.HeldBlocks.{machine_online}
+use Rattle.machine.proofs.HeldParts.{frames_may, frames_handed, machine_online}
 use Rattle.machine.proofs.OnlinesKept.{online_managed, online_hands}
 use Rattle.machine.proofs.PartsKept.{setting_again, made_again}
-use Rattle.machine.proofs.space_calls.put_online.Goals as goal
+use Rattle.machine.proofs.block_calls.put_online.Goals as goal
 
 module _ (a : Parts) (block : BlockNo) (is : IsMachine a) (may : MayPutOnline (setting_of a) 0 (world_of a) block) where
   managed : block.0 < a.space.sizes.managed
   managed = online_managed (setting_of a) (world_of a) block is.set is.consistent may
 
-  -- the block's frames, as the geometry names them
-  module _ (g : Sizes) (frame n : ℕ) (sizes : g ≡ a.space.sizes) (first : frame ≡ first_frame g block.0) (size : n ≡ g.block) where
-    first_is : frame ≡ first_frame a.space.sizes block.0
-    first_is = first ∙ ap (λ (s : Sizes). first_frame s block.0) sizes
+  -- the block's frames, as the geometry names them, changed hands
+  module _ (g : Sizes) (frame n : ℕ) (sizes : g ≡ a.space.sizes) (first : frame ≡ first_frame g block.0) (size : n ≡ g.block)
+      (core : CoreState) (sp : JournaledSpace) (opening : core.opening ≡ a.core.opening) (snapshot : core.snapshot ≡ handed_frames a.core.snapshot 0 (free_seat (setting_of a)) frame n) (taken : sp ≡ with_action (space.Online block) a.space) where
+    setting_then : setting_of (record a { core = core; space = sp }) ≡ setting_of a
+    setting_then = setting_again a core sp (space.Online block) opening taken
 
-    size_is : n ≡ a.space.sizes.block
-    size_is = size ∙ ap (λ (s : Sizes). s.block) sizes
-
-    frames_may : MayHandOver a.core.opening (view_of a.core.snapshot.views 0) (view_of a.core.snapshot.views (free_seat (setting_of a))) frame n
-    frames_may = rw (first_is, size_is) (online_hands (setting_of a) (world_of a) block is.set is.consistent may)
-
-    module _ (core : CoreState) (sp : JournaledSpace) (opening : core.opening ≡ a.core.opening) (snapshot : core.snapshot ≡ handed_frames a.core.snapshot 0 (free_seat (setting_of a)) frame n) (taken : sp ≡ with_action (space.Online block) a.space) where
-      frames_handed : core.snapshot ≡ handed_frames a.core.snapshot 0 (free_seat (setting_of a)) (first_frame a.space.sizes block.0) a.space.sizes.block
-      frames_handed =
-          snapshot
-          ∙ (ap (λ (f : ℕ). handed_frames a.core.snapshot 0 (free_seat (setting_of a)) f n) first_is
-          ∙ ap (λ (k : ℕ). handed_frames a.core.snapshot 0 (free_seat (setting_of a)) (first_frame a.space.sizes block.0) k) size_is)
-
-      setting_then : setting_of (record a { core = core; space = sp }) ≡ setting_of a
-      setting_then = setting_again a core sp (space.Online block) opening taken
-
-      world_then : world_of (record a { core = core; space = sp }) ≡ (online_made (setting_of a) (world_of a) block).world
-      world_then = ap (λ (m : Made). m.world)
-          (made_again a core sp (space.Online block) opening taken (handed_frames a.core.snapshot 0 (free_seat (setting_of a)) (first_frame a.space.sizes block.0) a.space.sizes.block) Nothing frames_handed)
+    world_then : world_of (record a { core = core; space = sp }) ≡ (online_made (setting_of a) (world_of a) block).world
+    world_then = ap (λ (m : Made). m.world)
+        (made_again a core sp (space.Online block) opening taken (handed_frames a.core.snapshot 0 (free_seat (setting_of a)) (first_frame a.space.sizes block.0) a.space.sizes.block) Nothing
+        (snapshot ∙ frames_handed a.space.sizes g block frame n sizes first size a.core.snapshot 0 (free_seat (setting_of a))))
 
 pub part-requires-clause-below : goal.part-requires-clause-below
 part-requires-clause-below c =
@@ -60,7 +44,9 @@ frames_of-requires c =
 
 pub hand_over-requires-clause-may : goal.hand_over-requires-clause-may
 hand_over-requires-clause-may c =
-    frames_may c.args.parts.now c.args.block c.requires.is c.requires.may c.geometry-g.result _ _ c.geometry-g.ensures.sizes c.frames_of.ensures.first c.block.ensures.size
+    let a = c.args.parts.now in
+    frames_may a.space.sizes c.geometry-g.result c.args.block _ _ c.geometry-g.ensures.sizes c.frames_of.ensures.first c.block.ensures.size _ _ _
+    (online_hands (setting_of a) (world_of a) c.args.block c.requires.is.set c.requires.is.consistent c.requires.may)
 
 pub returns-clause-is : goal.returns-clause-is
 returns-clause-is c =
