@@ -1,3 +1,4 @@
 pub mod Sent
+pub mod ToldBy
 pub mod Undone
 pub mod Small

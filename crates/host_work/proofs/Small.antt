@@ -4,10 +4,10 @@ use Rattle.evac_model.specs.declared.evacuation.EvacCause.{EvacCause}
 use Rattle.evac_model.specs.declared.evacuation.MoveLease.{MoveLease}
 use Rattle.evacuate.specs.declared.stage.Attempt.{Attempt}
 use Rattle.evacuate.specs.Evacuating.{Evacuating}
-use Rattle.evacuate.specs.Examples.{frame_no, page_no, page_0, found_busy}
+use Rattle.evacuate.specs.Examples.{frame_no, page_no, lease_of, page_0, found_busy}
 use Rattle.evacuate.specs.Tale.{nothing_tried, IsRound, WasBusy, WasFound}
 use Rattle.host_work.specs.Evacuated.{end_by, WasEvacuated}
-use Rattle.host_work.specs.Examples.{plugged_machine, isolate, undo, attempt, pinned, busy, unmovable}
+use Rattle.host_work.specs.Examples.{plugged_machine, isolate, undo, attempt, pinned, pinned_in_1, no_target, busy, unmovable}
 use Rattle.host_work.specs.Requests.{block_no}
 
 -- an evacuation that stands at its end
@@ -88,6 +88,51 @@ pinned_found = record {
       in_block = refl;
       found = record { target = frame_no 0; told = (2, omega arith, refl); pinned = refl; before = []; newest = refl; at_once = tt };
     };
+  };
+  made = refl;
+}
+
+-- the same in block 1
+pub pinned_in_block_1 : WasEvacuated plugged_machine (block_no 1) (Some pinned_in_1) (isolate 1 ∷ (attempt 0 ++ undo 1 ∷ []))
+pinned_in_block_1 = record {
+  evacuation = ended 1 0 None no_words (Some pinned_in_1);
+  tale = record { rounds = []; attempts = record { lease = lease_of 12 0 0; found = Some 1073754132 } ∷ [] };
+  sizes = refl;
+  block = refl;
+  ended = refl;
+  goes_by = record {
+    frames = omega arith;
+    places = (refl, (refl, (refl, (refl, tt))));
+    few = omega arith;
+    counted = refl;
+    rounds = tt;
+    in_order = (refl, tt);
+    busy_before = tt;
+    stands = record {
+      in_block = refl;
+      found = record { target = frame_no 0; told = (2, omega arith, refl); pinned = refl; before = []; newest = refl; at_once = tt };
+    };
+  };
+  made = refl;
+}
+
+-- there was no target for page 0
+pub without_target : WasEvacuated plugged_machine (block_no 3) (Some no_target) (isolate 3 ∷ undo 3 ∷ [])
+without_target = record {
+  evacuation = ended 3 0 None no_words (Some no_target);
+  tale = nothing_tried;
+  sizes = refl;
+  block = refl;
+  ended = refl;
+  goes_by = record {
+    frames = omega arith;
+    places = (refl, (refl, (refl, (refl, tt))));
+    few = omega arith;
+    counted = refl;
+    rounds = tt;
+    in_order = tt;
+    busy_before = tt;
+    stands = record { in_block = refl; found = record { after = None; told = (1, omega arith, refl); at_once = tt } };
   };
   made = refl;
 }

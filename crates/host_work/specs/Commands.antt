@@ -8,6 +8,7 @@ use Rattle.evac_model.specs.declared.host.HostResult.TheVariants as results
 use Rattle.evac_model.specs.declared.space.SpaceAction.{SpaceAction}
 use Rattle.evac_model.specs.DeviceAnswer.{DeviceState, device_after, config_of}
 use Rattle.evac_model.specs.Geometry.{Sizes}
+use Rattle.evac_model.specs.HostCommands.{command_result, after_command}
 use Rattle.resize.specs.declared.tried.Tried.{Tried}
 use Rattle.host_work.specs.Requests.{Evacuates, WasSent, WasNotSent}
 
@@ -24,17 +25,23 @@ pub record WasRead (s : Sizes) (d : DeviceState) (result : Option HostResult) (l
   pub nothing_made : actions ≡ []
   pub nothing_sent : device ≡ []
 
--- a command did this, where the device stood so
-abbrev pub IsDoneBy : Evacuates → Sizes → DeviceState → HostCommand → Option HostResult → List Tried → List SpaceAction → List DeviceAction → Type 0
-IsDoneBy E s d (Request bytes) (Some (results.Answered response)) lines actions device = WasSent E s d bytes response lines actions device
-IsDoneBy E s d (Request bytes) (Some (results.Config config)) lines actions device = ⊥
-IsDoneBy E s d (Request bytes) None lines actions device = WasNotSent E s d bytes lines actions device
-IsDoneBy E s d Config result lines actions device = WasRead s d result lines actions device
+-- a command did this, behind what the driver had done before, where the device stood so
+abbrev pub IsDoneBy : Evacuates → (before : List SpaceAction) → Sizes → DeviceState → HostCommand → Option HostResult → List Tried → List SpaceAction → List DeviceAction → Type 0
+IsDoneBy E before s d (Request bytes) (Some (results.Answered response)) lines actions device = WasSent E before s d bytes response lines actions device
+IsDoneBy E before s d (Request bytes) (Some (results.Config config)) lines actions device = ⊥
+IsDoneBy E before s d (Request bytes) None lines actions device = WasNotSent E before s d bytes lines actions device
+IsDoneBy E before s d Config result lines actions device = WasRead s d result lines actions device
 
--- The commands did all this, one after another: the driver's actions of the frame space, and those of the device.
-abbrev pub AreDoneBy : Evacuates → Sizes → DeviceState → List Ended → List SpaceAction → List DeviceAction → Type 0
-AreDoneBy E s d [] actions device = (actions ≡ []) × (device ≡ [])
-AreDoneBy E s d (x ∷ xs) actions device =
+-- The commands did all this, one after another, behind what the driver had done before: the driver's actions of the frame
+-- space, and those of the device.
+abbrev pub AreDoneBy : Evacuates → (before : List SpaceAction) → Sizes → DeviceState → List Ended → List SpaceAction → List DeviceAction → Type 0
+AreDoneBy E before s d [] actions device = (actions ≡ []) × (device ≡ [])
+AreDoneBy E before s d (x ∷ xs) actions device =
     (first : List SpaceAction) × (rest : List SpaceAction) × (actions ≡ first ++ rest)
     × (sent : List DeviceAction) × (later : List DeviceAction) × (device ≡ sent ++ later)
-    × IsDoneBy E s d x.command x.result x.tried first sent × AreDoneBy E s (device_after s d sent) xs rest later
+    × IsDoneBy E before s d x.command x.result x.tried first sent × AreDoneBy E (before ++ first) s (device_after s d sent) xs rest later
+
+-- commands that unplug nothing, each with what it gives by those before
+abbrev pub told_by : Sizes → DeviceState → List HostCommand → List Ended
+told_by s d [] = []
+told_by s d (c ∷ cs) = record { command = c; result = Some (command_result s d c); tried = [] } ∷ told_by s (after_command s d c) cs

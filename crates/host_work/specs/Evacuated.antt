@@ -33,7 +33,8 @@ abbrev pub end_by : Option EvacCause → Stage
 end_by None = Emptied
 end_by (Some cause) = Failed cause
 
--- An evacuation of the block went by a tale of rounds and attempts to that end, and did this to the frame space.
+-- An evacuation of the block went by a tale of rounds and attempts to that end, and did this to the frame space. A cause was met
+-- by what the evacuation was told: that this was true is not said here.
 pub record WasEvacuated (s : Sizes) (b : BlockNo) (cause : Option EvacCause) (actions : List SpaceAction) : Type 0 where
   pub evacuation : Evacuating
   pub tale : Tale
@@ -42,3 +43,7 @@ pub record WasEvacuated (s : Sizes) (b : BlockNo) (cause : Option EvacCause) (ac
   pub ended : evacuation.stage ≡ end_by cause
   pub goes_by : GoesBy evacuation tale
   pub made : actions ≡ space_actions (log_of evacuation tale)
+
+-- whatever the driver had done before
+abbrev pub by_tale : Sizes → (before : List SpaceAction) → BlockNo → Option EvacCause → List SpaceAction → Type 0
+by_tale s before b cause actions = WasEvacuated s b cause actions

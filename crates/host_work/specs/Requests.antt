@@ -17,10 +17,11 @@ use Rattle.mem_device.specs.Answering.{named_blocks}
 use Rattle.resize.specs.declared.tried.Tried.{Tried}
 use Rattle.resize.specs.declared.tried.TriedResult.TheVariants as results
 
--- What an evacuation of a block with that end may have done to the frame space. It is `WasEvacuated` for one mover that
--- moves page by page; other movers have other rounds.
+-- What an evacuation of a block with that end may have done to the frame space, behind what the driver had done there
+-- before. It is `by_tale` for one mover that moves page by page, by itself; other movers have other rounds, and a report says
+-- besides that the cause is true of its journal and its history.
 abbrev pub Evacuates : Type 1
-Evacuates = BlockNo → Option EvacCause → List SpaceAction → Type 0
+Evacuates = (before : List SpaceAction) → BlockNo → Option EvacCause → List SpaceAction → Type 0
 
 abbrev pub block_no : ℕ → BlockNo
 block_no block = record { 0 = block }
@@ -42,12 +43,12 @@ blocks_back s d request Error = named_blocks s d.plugged request
 abbrev pub put_online : List ℕ → List SpaceAction
 put_online blocks = map (λ b. space.Online (block_no b)) blocks
 
--- the blocks were emptied and taken away, one after another
-abbrev pub AreTakenAway : Evacuates → List ℕ → List SpaceAction → Type 0
-AreTakenAway E [] actions = actions ≡ []
-AreTakenAway E (b ∷ blocks) actions =
+-- the blocks were emptied and taken away, one after another, behind what the driver had done before
+abbrev pub AreTakenAway : Evacuates → (before : List SpaceAction) → List ℕ → List SpaceAction → Type 0
+AreTakenAway E before [] actions = actions ≡ []
+AreTakenAway E before (b ∷ blocks) actions =
     (evacuation : List SpaceAction) × (rest : List SpaceAction) × (actions ≡ evacuation ++ space.Offline (block_no b) ∷ rest)
-    × E (block_no b) None evacuation × AreTakenAway E blocks rest
+    × E before (block_no b) None evacuation × AreTakenAway E (before ++ (evacuation ++ space.Offline (block_no b) ∷ [])) blocks rest
 
 -- ---- what is reported of them
 
@@ -59,27 +60,28 @@ failed_line block cause = record { block = block_no block; result = results.Fail
 
 -- ---- a request
 
--- It was sent once all its blocks were emptied and taken away, and was answered so. What it plugged or didn't unplug was put
--- online.
-pub record WasSent (E : Evacuates) (s : Sizes) (d : DeviceState) (bytes : List ℕ) (response : Response) (lines : List Tried) (actions : List SpaceAction) (device : List DeviceAction) : Type 0 where
+-- Behind what the driver had done before, it was sent once all its blocks were emptied and taken away, and was answered so.
+-- What it plugged or didn't unplug was put online. That the frames of the blocks are zeroed before it is sent is no action of
+-- the frame space.
+pub record WasSent (E : Evacuates) (had : List SpaceAction) (s : Sizes) (d : DeviceState) (bytes : List ℕ) (response : Response) (lines : List Tried) (actions : List SpaceAction) (device : List DeviceAction) : Type 0 where
   pub emptying : List SpaceAction
-  pub taken_away : AreTakenAway E (blocks_to_empty s d (request_in bytes)) emptying
+  pub taken_away : AreTakenAway E had (blocks_to_empty s d (request_in bytes)) emptying
   pub made : actions ≡ emptying ++ put_online (blocks_back s d (request_in bytes) response)
   pub sent : map (λ a. a.act) device ≡ acts.Request bytes response ∷ []
   pub tried : lines ≡ emptied_lines (blocks_to_empty s d (request_in bytes))
 
 -- It wasn't sent: one of its blocks couldn't be emptied, for that cause. Those before it, which had been emptied and taken
 -- away, were put online again, rising.
-pub record WasNotSent (E : Evacuates) (s : Sizes) (d : DeviceState) (bytes : List ℕ) (lines : List Tried) (actions : List SpaceAction) (device : List DeviceAction) : Type 0 where
+pub record WasNotSent (E : Evacuates) (had : List SpaceAction) (s : Sizes) (d : DeviceState) (bytes : List ℕ) (lines : List Tried) (actions : List SpaceAction) (device : List DeviceAction) : Type 0 where
   pub before : List ℕ
   pub block : ℕ
   pub behind : List ℕ
   pub blocks : blocks_to_empty s d (request_in bytes) ≡ before ++ block ∷ behind
   pub cause : EvacCause
   pub emptying : List SpaceAction
-  pub taken_away : AreTakenAway E before emptying
+  pub taken_away : AreTakenAway E had before emptying
   pub failing : List SpaceAction
-  pub failed : E (block_no block) (Some cause) failing
+  pub failed : E (had ++ emptying) (block_no block) (Some cause) failing
   pub made : actions ≡ emptying ++ failing ++ put_online (reverse before)
   pub nothing_sent : device ≡ []
   pub tried : lines ≡ emptied_lines before ++ failed_line block cause ∷ []

@@ -1,6 +1,7 @@
 //! Laws of the definitions. Each function has an empty body: its contract is the law.
 
 ghost use Rattle.std.specs.Prelude.{◌≡◌, ◌≢◌, ◌++◌, ℕ, false, List, [], ◌∷◌, map, Option, None, Some};
+ghost use Rattle.std.specs.List.{AllByRecursion};
 ghost use Rattle.evac_model.specs.declared.device.Response.{Response};
 ghost use Rattle.evac_model.specs.declared.device_journal.DeviceAct.{DeviceAct};
 ghost use Rattle.evac_model.specs.declared.device_journal.DeviceAction.{DeviceAction};
@@ -13,19 +14,27 @@ ghost use Rattle.evac_model.specs.declared.names.PageNo.{PageNo};
 ghost use Rattle.evac_model.specs.declared.space.SpaceAction.{SpaceAction};
 ghost use Rattle.evac_model.specs.DeviceAnswer.{DeviceState, request_in};
 ghost use Rattle.evac_model.specs.Geometry.{Sizes};
-ghost use Rattle.evac_model.specs.HostCommands.{unplugs, plugged_by, onlines_of};
+ghost use Rattle.evac_model.specs.HostCommands.{unplugs, plugged_by, onlines_of, host_actions, host_onlines};
+ghost use Rattle.evac_model.specs.Scenarios.{IsHostCommand};
 ghost use Rattle.resize.specs.declared.tried.Tried.{Tried};
-ghost use Rattle.host_work.specs.Commands.{IsDoneBy};
-ghost use Rattle.host_work.specs.Evacuated.{WasEvacuated};
+ghost use Rattle.host_work.specs.Commands.{IsDoneBy, AreDoneBy, told_by};
+ghost use Rattle.host_work.specs.Evacuated.{WasEvacuated, by_tale};
 ghost use Rattle.host_work.specs.Examples.{CommandsOfSmall};
 
 /// A request that unplugs nothing is one answer of the device, and then the blocks that it plugged are put online: no
 /// evacuation is made.
 pub fn requests_that_unplug_nothing_are_one_answer()
-    ensures actions { (s : Sizes) (d : DeviceState) (bytes : List ℕ) (response : Response) (actions : List SpaceAction) (device : List DeviceAction) → unplugs (request_in bytes) ≡ false → IsDoneBy (WasEvacuated s) s d (HostCommand.Request bytes) (Some (HostResult.Answered response)) [] actions device → actions ≡ onlines_of (plugged_by s (request_in bytes) response) }
-    ensures sent { (s : Sizes) (d : DeviceState) (bytes : List ℕ) (response : Response) (actions : List SpaceAction) (device : List DeviceAction) → unplugs (request_in bytes) ≡ false → IsDoneBy (WasEvacuated s) s d (HostCommand.Request bytes) (Some (HostResult.Answered response)) [] actions device → map (λ a. a.act) device ≡ DeviceAct.Request bytes response ∷ [] }
-    ensures done { (s : Sizes) (d : DeviceState) (bytes : List ℕ) (response : Response) (device : List DeviceAction) → unplugs (request_in bytes) ≡ false → map (λ a. a.act) device ≡ DeviceAct.Request bytes response ∷ [] → IsDoneBy (WasEvacuated s) s d (HostCommand.Request bytes) (Some (HostResult.Answered response)) [] (onlines_of (plugged_by s (request_in bytes) response)) device }
-    ensures always_sent { (s : Sizes) (d : DeviceState) (bytes : List ℕ) (lines : List Tried) (actions : List SpaceAction) (device : List DeviceAction) → unplugs (request_in bytes) ≡ false → ¬ IsDoneBy (WasEvacuated s) s d (HostCommand.Request bytes) None lines actions device }
+    ensures actions { (before : List SpaceAction) (s : Sizes) (d : DeviceState) (bytes : List ℕ) (response : Response) (lines : List Tried) (actions : List SpaceAction) (device : List DeviceAction) → unplugs (request_in bytes) ≡ false → IsDoneBy (by_tale s) before s d (HostCommand.Request bytes) (Some (HostResult.Answered response)) lines actions device → actions ≡ onlines_of (plugged_by s (request_in bytes) response) }
+    ensures sent { (before : List SpaceAction) (s : Sizes) (d : DeviceState) (bytes : List ℕ) (response : Response) (lines : List Tried) (actions : List SpaceAction) (device : List DeviceAction) → unplugs (request_in bytes) ≡ false → IsDoneBy (by_tale s) before s d (HostCommand.Request bytes) (Some (HostResult.Answered response)) lines actions device → map (λ a. a.act) device ≡ DeviceAct.Request bytes response ∷ [] }
+    ensures lines { (before : List SpaceAction) (s : Sizes) (d : DeviceState) (bytes : List ℕ) (response : Response) (lines : List Tried) (actions : List SpaceAction) (device : List DeviceAction) → unplugs (request_in bytes) ≡ false → IsDoneBy (by_tale s) before s d (HostCommand.Request bytes) (Some (HostResult.Answered response)) lines actions device → lines ≡ [] }
+    ensures done { (before : List SpaceAction) (s : Sizes) (d : DeviceState) (bytes : List ℕ) (response : Response) (device : List DeviceAction) → unplugs (request_in bytes) ≡ false → map (λ a. a.act) device ≡ DeviceAct.Request bytes response ∷ [] → IsDoneBy (by_tale s) before s d (HostCommand.Request bytes) (Some (HostResult.Answered response)) [] (onlines_of (plugged_by s (request_in bytes) response)) device }
+    ensures always_sent { (before : List SpaceAction) (s : Sizes) (d : DeviceState) (bytes : List ℕ) (lines : List Tried) (actions : List SpaceAction) (device : List DeviceAction) → unplugs (request_in bytes) ≡ false → ¬ IsDoneBy (by_tale s) before s d (HostCommand.Request bytes) None lines actions device }
+{}
+
+/// Commands that unplug nothing did, one after another, what the functions of the commands and the device alone say: those
+/// by which a report is judged today.
+pub fn commands_that_unplug_nothing_do_as_told()
+    ensures { (before : List SpaceAction) (s : Sizes) (d : DeviceState) (commands : List HostCommand) → AllByRecursion IsHostCommand commands → AreDoneBy (by_tale s) before s d (told_by s d commands) (host_onlines s d commands) (host_actions s d commands) }
 {}
 
 /// An evacuation that fails undoes its isolation last, but for one whose isolation was refused, which does nothing.

@@ -1,8 +1,11 @@
-use Rattle.std.proofs.Common.{◌≡◌, ◌≢◌, ℕ, Bool, true, false, List, [], ◌∷◌, ◌++◌, reverse, refl, ap, ◌∙◌, subst, append-nil}
-use Rattle.evac_model.specs.declared.device.Response.TheVariants.{Ack, Busy}
+use Rattle.std.proofs.Common.{◌≡◌, ◌≢◌, ℕ, Bool, true, false, List, [], ◌∷◌, ◌++◌, map, reverse, arith, Option, Some, refl, ap, ◌∙◌, subst, append-nil}
+use Rattle.evac_model.specs.declared.device.Response.TheVariants.{Ack, Busy, Error}
+use Rattle.evac_model.specs.declared.device_journal.DeviceAct.TheVariants as acts
 use Rattle.evac_model.specs.declared.device_journal.DeviceAction.{DeviceAction}
 use Rattle.evac_model.specs.declared.evacuation.EvacCause.{EvacCause}
 use Rattle.evac_model.specs.declared.evacuation.EvacCause.TheVariants.{Unmovable}
+use Rattle.evac_model.specs.declared.host.HostResult.{HostResult}
+use Rattle.evac_model.specs.declared.host.HostResult.TheVariants as given
 use Rattle.evac_model.specs.declared.names.BlockNo.{BlockNo}
 use Rattle.evac_model.specs.declared.space.SpaceAction.{SpaceAction}
 use Rattle.evac_model.specs.declared.space.SpaceAction.TheVariants as space
@@ -12,10 +15,10 @@ use Rattle.resize.specs.declared.tried.Tried.{Tried}
 use Rattle.resize.specs.declared.tried.TriedResult.{TriedResult}
 use Rattle.resize.specs.declared.tried.TriedResult.TheVariants as results
 use Rattle.host_work.specs.Commands.{Ended}
-use Rattle.host_work.specs.Evacuated.{WasEvacuated}
+use Rattle.host_work.specs.Evacuated.{by_tale}
 use Rattle.host_work.specs.Requests.{Evacuates, block_no, AreTakenAway, WasNotSent, emptied_lines, failed_line, put_online}
-use Rattle.host_work.specs.Examples.{plugged_machine, all_plugged, plug_3, unplug_3, unplug_all, answered, unsent, isolate, undo, offline, online, attempt, Did, pinned, busy, unmovable}
-use Rattle.host_work.proofs.Small.{empty, moved, pinned_found, refused, busy_in_five}
+use Rattle.host_work.specs.Examples.{plugged_machine, all_plugged, with_holes, configured, stayed, plug_3, unplug_3, unplug_all, answered, unsent, isolate, undo, offline, online, attempt, Did, pinned, pinned_in_1, no_target, busy, unmovable}
+use Rattle.host_work.proofs.Small.{empty, moved, pinned_found, pinned_in_block_1, without_target, refused, busy_in_five}
 use Rattle.host_work.proofs.Undone.{end_undone}
 use Rattle.host_work.proofs.laws.commands_of_a_small_machine.Goals as goal
 
@@ -37,13 +40,13 @@ abbrev cause_of : List Tried → EvacCause
 cause_of [] = pinned
 cause_of (t ∷ ts) = cause_in t.result
 
-abbrev stayed : TriedResult → Bool
-stayed (results.Failed cause) = true
-stayed other = false
+abbrev is_kept : TriedResult → Bool
+is_kept (results.Failed cause) = true
+is_kept other = false
 
 abbrev first_stayed : List Tried → Bool
 first_stayed [] = false
-first_stayed (t ∷ ts) = stayed t.result
+first_stayed (t ∷ ts) = is_kept t.result
 
 only_line : (before : List ℕ) (block : ℕ) (cause : EvacCause) → failed_line 3 pinned ∷ [] ≡ emptied_lines before ++ failed_line block cause ∷ [] → (before ≡ []) × (pinned ≡ cause)
 only_line [] block cause is = (refl, ap cause_of is)
@@ -63,19 +66,24 @@ no_online (x ∷ y ∷ []) is = absurd (cc)
 no_online (x ∷ y ∷ z ∷ q) is = absurd (cc)
 
 abbrev E : Evacuates
-E = WasEvacuated plugged_machine
+E = by_tale plugged_machine
 
 -- an evacuation that failed at a pinned page was undone
-not_undone : (first : List SpaceAction) (device : List DeviceAction) → WasNotSent E plugged_machine all_plugged unplug_3 (failed_line 3 pinned ∷ []) first device → isolate 3 ∷ attempt 0 ≢ first
+not_undone : (first : List SpaceAction) (device : List DeviceAction) → WasNotSent E [] plugged_machine all_plugged unplug_3 (failed_line 3 pinned ∷ []) first device → isolate 3 ∷ attempt 0 ≢ first
 not_undone first device n is =
     let line = only_line n.before n.block n.cause n.tried in
-    let none : n.emptying ≡ [] = subst (λ (l : List ℕ). AreTakenAway E l n.emptying) line.0 n.taken_away in
+    let none : n.emptying ≡ [] = subst (λ (l : List ℕ). AreTakenAway E [] l n.emptying) line.0 n.taken_away in
     let end = end_undone plugged_machine (block_no n.block) n.cause n.failing n.failed (λ frame page e. let never : pinned ≡ Unmovable frame page = line.1 ∙ e in absurd (cc)) in
     let whole : first ≡ n.failing =
     n.made
     ∙ (ap (λ (l : List SpaceAction). (l ++ n.failing) ++ put_online (reverse n.before)) none
     ∙ (ap (λ (l : List ℕ). n.failing ++ put_online (reverse l)) line.0 ∙ append-nil n.failing)) in
     no_undo end.0 (block_no n.block) (is ∙ (whole ∙ end.1))
+
+-- the bytes that a configuration says are plugged
+abbrev plugged_in : Option HostResult → ℕ
+plugged_in (Some (given.Config config)) = config.plugged_size
+plugged_in other = 0
 
 -- ---- the rows
 
@@ -102,6 +110,35 @@ returns c = record {
       record { emptying = []; taken_away = refl; made = refl; sent = refl; tried = refl },
       (refl, refl),
     ),
+  );
+  unplugged_twice = (
+    isolate 3 ∷ offline 3 ∷ [],
+    [],
+    refl,
+    request_action unplug_3 (Ack 0) ∷ [],
+    request_action unplug_3 Error ∷ [],
+    refl,
+    record { emptying = isolate 3 ∷ offline 3 ∷ []; taken_away = (isolate 3 ∷ [], [], refl, empty 3, refl); made = refl; sent = refl; tried = refl },
+    (
+      [],
+      [],
+      refl,
+      request_action unplug_3 Error ∷ [],
+      [],
+      refl,
+      record { emptying = []; taken_away = refl; made = refl; sent = refl; tried = refl },
+      (refl, refl),
+    ),
+  );
+  configuration_alone = (
+    [],
+    [],
+    refl,
+    [],
+    [],
+    refl,
+    record { told = refl; tried = refl; nothing_made = refl; nothing_sent = refl },
+    (refl, refl),
   );
   pinned_page = (
     isolate 3 ∷ (attempt 0 ++ undo 3 ∷ []),
@@ -143,6 +180,52 @@ returns c = record {
       taken_away = refl;
       failing = isolate 3 ∷ (attempt 0 ++ (attempt 0 ++ (attempt 0 ++ (attempt 0 ++ (attempt 0 ++ undo 3 ∷ [])))));
       failed = busy_in_five;
+      made = refl;
+      nothing_sent = refl;
+      tried = refl;
+    },
+    (refl, refl),
+  );
+  no_target_left = (
+    isolate 3 ∷ undo 3 ∷ [],
+    [],
+    refl,
+    [],
+    [],
+    refl,
+    record {
+      before = [];
+      block = 3;
+      behind = [];
+      blocks = refl;
+      cause = no_target;
+      emptying = [];
+      taken_away = refl;
+      failing = isolate 3 ∷ undo 3 ∷ [];
+      failed = without_target;
+      made = refl;
+      nothing_sent = refl;
+      tried = refl;
+    },
+    (refl, refl),
+  );
+  pinned_behind_two_emptied_ones = (
+    stayed,
+    [],
+    refl,
+    [],
+    [],
+    refl,
+    record {
+      before = 3 ∷ 2 ∷ [];
+      block = 1;
+      behind = [];
+      blocks = refl;
+      cause = pinned_in_1;
+      emptying = isolate 3 ∷ offline 3 ∷ isolate 2 ∷ offline 2 ∷ [];
+      taken_away = (isolate 3 ∷ [], isolate 2 ∷ offline 2 ∷ [], refl, empty 3, (isolate 2 ∷ [], [], refl, empty 2, refl));
+      failing = isolate 1 ∷ (attempt 0 ++ undo 1 ∷ []);
+      failed = pinned_in_block_1;
       made = refl;
       nothing_sent = refl;
       tried = refl;
@@ -204,4 +287,12 @@ returns c = record {
       let none : request_action unplug_3 Busy ∷ [] ≡ [] = sent_by_one all_plugged (unsent unplug_3 (failed_line 3 pinned ∷ [])) _ _ h ∙ h.6.nothing_sent in
       absurd (cc);
   block_not_tried = λ h. let two : emptied_lines (3 ∷ []) ≡ emptied_lines (3 ∷ 2 ∷ []) = h.6.tried in absurd (cc);
+  line_left_out = λ h. let one : [] ≡ emptied_lines (3 ∷ []) = h.6.tried in absurd (cc);
+  sent_twice = λ h.
+      let once : map (λ (a : DeviceAction). a.act) (request_action unplug_3 (Ack 0) ∷ request_action unplug_3 (Ack 0) ∷ []) ≡ acts.Request unplug_3 (Ack 0) ∷ [] =
+      ap (λ (l : List DeviceAction). map (λ (a : DeviceAction). a.act) l) (sent_by_one all_plugged (answered unplug_3 (Ack 0) (emptied_lines (3 ∷ []))) _ _ h) ∙ h.6.sent in
+      absurd (cc);
+  another_configuration = λ h.
+      let same : plugged_in (configured with_holes).result ≡ plugged_in (configured all_plugged).result = ap plugged_in h.6.told in
+      absurd (omega arith);
 }
