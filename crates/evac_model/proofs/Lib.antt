@@ -12,8 +12,10 @@ pub mod Refusals
 pub mod Numbers
 pub mod Ranges
 pub mod Members
+pub mod Distinct
 pub mod Unions
 pub mod Rising
 pub mod Padded
 pub mod Pairings
 pub mod PairedExample
+pub mod DeviceJournal

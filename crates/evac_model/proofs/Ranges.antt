@@ -3,7 +3,7 @@ use Rattle.std.proofs.Common.{◌≡◌, ◌≢◌, ℕ, zero, suc, ◌+◌, ◌
 use Rattle.std.specs.List.{list_all, range_with_len}
 use Rattle.std.proofs.Math.Bool.{or-true, or-false, and-true, and-false}
 use Rattle.std.proofs.Math.Dec.{eqb}
-use Rattle.std.proofs.lemmas.Bool.{cases_lt, cases_eq, eq-eqb, ne_eqb, and_parts}
+use Rattle.std.proofs.lemmas.Bool.{cases_lt, cases_eq, leb-true, ltb-true, eq-eqb, ne_eqb, and_parts}
 use Rattle.std.proofs.lemmas.Bool.Decides.{nat_tests}
 use Rattle.evac_model.specs.Numbers.{is_between}
 
@@ -15,6 +15,9 @@ between_below first last b h = grind (arith, nat_tests)
 
 pub between_above : (first last b : ℕ) → last ≤ b → is_between first last b ≡ false
 between_above first last b h = grind (arith, nat_tests)
+
+pub between_bounds : (first last b : ℕ) → is_between first last b ≡ true → (first ≤ b) × (b < last)
+between_bounds first last b h = let p = and_parts _ _ h in (leb-true _ _ p.0, ltb-true _ _ p.1)
 
 -- a longer range has one number more
 between_more : (first b k : ℕ) → k ≢ b → is_between first (b + 1) k ≡ is_between first b k

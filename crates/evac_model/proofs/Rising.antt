@@ -5,7 +5,7 @@ use Rattle.std.specs.List.Sorted.{IsPermutation, IsNonDecreasing, IsBinarySearch
 use Rattle.std.specs.Ordering.{nat_cmp}
 use Rattle.std.specs.Result.{is_ok}
 use Rattle.std.proofs.Math.Dec.{eqb}
-use Rattle.std.proofs.lemmas.Bool.{cases_lt, false_from_ne_true, ltb-true}
+use Rattle.std.proofs.lemmas.Bool.{cases_lt, false_from_ne_true, ltb-true, lt-ltb, and_parts, and_from}
 use Rattle.std.proofs.lemmas.List.{get_or_default}
 use Rattle.std.proofs.lemmas.List.Elements.{Contains-get_or}
 use Rattle.std.proofs.lemmas.List.Sorted.{list_any-IsPermutation, searched}
@@ -61,10 +61,11 @@ searched_in xs n r up found = by_result r (searched xs n r found (λ i j le l. u
 -- the next call is listed just where the list has its number; behind the largest number no call is
 pub listed_next : (fails : List ℕ) (made : ℕ) (calls : Calls) (r : Bool) → record { fails = rising fails; made = made } ≡ calls → made < 2 ^ 64 - 1 → r ≡ is_in (made + 1) fails → (r ≡ true) ↔ IsListed calls
 listed_next fails made calls r is l e =
+    let same : r ≡ is_in (made + 1) (rising fails) = e ∙ sym (is_in-rising fails (made + 1)) in
     subst (λ (c : Calls). (r ≡ true) ↔ IsListed c) is
-    (λ t. (l, (rising_contains fails (made + 1)).1 ((is_in-contains fails (made + 1)).0 (sym e ∙ t))), λ h. e ∙ (is_in-contains fails (made + 1)).1 ((rising_contains fails (made + 1)).0 h.1))
+    (λ t. and_from _ _ (lt-ltb made (2 ^ 64 - 1) l) (sym same ∙ t), λ h. same ∙ (and_parts _ _ h).1)
 
 pub listed_last : (fails : List ℕ) (made : ℕ) (calls : Calls) (r : Bool) → record { fails = rising fails; made = made } ≡ calls → 2 ^ 64 - 1 ≤ made → r ≡ nat_lt made (2 ^ 64 - 1) → (r ≡ true) ↔ IsListed calls
 listed_last fails made calls r is g e =
     subst (λ (c : Calls). (r ≡ true) ↔ IsListed c) is
-    (λ t. absurd (omega (arith, g, ltb-true made (2 ^ 64 - 1) (sym e ∙ t))), λ h. absurd (omega (arith, h.0, g)))
+    (λ t. absurd (omega (arith, g, ltb-true made (2 ^ 64 - 1) (sym e ∙ t))), λ h. absurd (omega (arith, g, ltb-true made (2 ^ 64 - 1) (and_parts _ _ h).0)))

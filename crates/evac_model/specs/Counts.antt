@@ -1,6 +1,6 @@
 -- Counts of what went wrong outside: numbers of 64 bits that stand still at the largest one; and calls of which listed ones fail.
-use Rattle.std.specs.Prelude.{◌≡◌, ℕ, ◌+◌, ◌-◌, ◌^◌, ◌<◌, ◌⊎◌, ⊤, min, List, Contains, Option, None, Some}
-use Rattle.evac_model.specs.Numbers.{rising}
+use Rattle.std.specs.Prelude.{◌≡◌, ℕ, ◌+◌, ◌-◌, ◌^◌, ◌<◌, ◌⊎◌, ◌&&◌, Bool, true, nat_lt, ⊤, min, List, Option, None, Some}
+use Rattle.evac_model.specs.Numbers.{is_in, rising}
 
 -- one more, where the largest number stands still
 abbrev pub one_more : ℕ → ℕ
@@ -28,6 +28,9 @@ first_of_calls fails = record { fails = rising fails; made = 0 }
 abbrev pub after_call : Calls → Calls
 after_call c = record { fails = c.fails; made = one_more c.made }
 
--- the next call raises the number of calls to one of the list
+-- whether the next call raises the number of calls to one of the list
+abbrev pub is_listed : Calls → Bool
+is_listed c = nat_lt c.made (2 ^ 64 - 1) && is_in (c.made + 1) c.fails
+
 abbrev pub IsListed : Calls → Type 0
-IsListed c = (c.made < 2 ^ 64 - 1) × Contains c.fails (c.made + 1)
+IsListed c = is_listed c ≡ true

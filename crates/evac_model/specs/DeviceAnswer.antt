@@ -57,6 +57,23 @@ are_plugged plugged first n = list_all (λ b. is_in b plugged) (range_with_len f
 abbrev pub are_unplugged : List ℕ → (first n : ℕ) → Bool
 are_unplugged plugged first n = list_all (λ b. not (is_in b plugged)) (range_with_len first n)
 
+-- the plugged blocks that an UNPLUG of a good range that is all plugged, or an UNPLUG_ALL, names
+abbrev pub named_blocks : Sizes → (plugged : List ℕ) → Option Request → List ℕ
+named_blocks s plugged None = []
+named_blocks s plugged (Some (requests.Plug addr count)) = []
+named_blocks s plugged (Some (requests.Unplug addr count)) =
+    if is_good_range s addr count && are_plugged plugged (block_at s addr) count then range_with_len (block_at s addr) count else []
+named_blocks s plugged (Some requests.UnplugAll) = plugged
+named_blocks s plugged (Some (requests.State addr count)) = []
+
+-- whether the answer depends on the backing, which is asked once to discard all blocks that the request names
+abbrev pub asks_backing : Sizes → DeviceState → Option Request → Bool
+asks_backing s d None = false
+asks_backing s d (Some (requests.Plug addr count)) = false
+asks_backing s d (Some (requests.Unplug addr count)) = is_good_range s addr count && (are_plugged d.plugged (block_at s addr) count && not d.migrating)
+asks_backing s d (Some requests.UnplugAll) = not (length d.plugged == 0) && not d.migrating
+asks_backing s d (Some (requests.State addr count)) = false
+
 -- the state of a range: plugged 0, unplugged 1, mixed 2
 abbrev pub range_state : List ℕ → (first n : ℕ) → ℕ
 range_state plugged first n = if are_plugged plugged first n then 0 else if are_unplugged plugged first n then 1 else 2

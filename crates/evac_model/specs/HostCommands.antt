@@ -1,12 +1,11 @@
--- What the host's commands do to the memory device and to the frame space, and what they give. No listener is
--- there to refuse, and no request asks the backing.
-use Rattle.std.specs.Prelude.{◌≡◌, ℕ, suc, Bool, true, false, if◌then◌else◌, List, [], ◌∷◌, ◌++◌, map, Option, None, Some}
+-- What the host's commands do to the memory device and to the frame space, and what they give, where none of them unplugs
+-- and no listener is there to refuse.
+use Rattle.std.specs.Prelude.{ℕ, suc, Bool, true, false, if◌then◌else◌, List, [], ◌∷◌, ◌++◌, map, Option, None, Some}
 use Rattle.std.specs.List.{range_with_len, zip}
 use Rattle.evac_model.specs.declared.device.Request.{Request}
 use Rattle.evac_model.specs.declared.device.Request.TheVariants.{Plug, Unplug, UnplugAll, State}
 use Rattle.evac_model.specs.declared.device.Response.{Response}
 use Rattle.evac_model.specs.declared.device.Response.TheVariants.{Ack}
-use Rattle.evac_model.specs.declared.device_journal.DeviceAct.{DeviceAct}
 use Rattle.evac_model.specs.declared.device_journal.DeviceAct.TheVariants as acts
 use Rattle.evac_model.specs.declared.device_journal.DeviceAction.{DeviceAction}
 use Rattle.evac_model.specs.declared.host.HostCommand.{HostCommand}
@@ -29,9 +28,9 @@ unplugs (Some (Unplug addr count)) = true
 unplugs (Some UnplugAll) = true
 unplugs (Some (State addr count)) = false
 
--- what the device answers to the bytes of a request
-abbrev pub answer_to : Sizes → DeviceState → List ℕ → Response
-answer_to s d bytes = device_answer s d false (request_in bytes)
+-- what the device answers to the bytes of a request where nobody refuses
+abbrev pub sure_answer : Sizes → DeviceState → List ℕ → Response
+sure_answer s d bytes = device_answer s d false (request_in bytes)
 
 -- a request was answered, and no listener was told
 abbrev pub request_action : List ℕ → Response → DeviceAction
@@ -66,23 +65,26 @@ plugged_by s (Some (Plug addr count)) (Ack state) = range_blocks s addr count
 plugged_by s request response = no_blocks
 
 -- each of these blocks is put online
+abbrev pub put_online : List ℕ → List SpaceAction
+put_online blocks = map (λ b. Online (record { 0 = b })) blocks
+
 abbrev pub onlines_of : BlockRange → List SpaceAction
-onlines_of r = map (λ b. Online (record { 0 = b })) (blocks_of r)
+onlines_of r = put_online (blocks_of r)
 
 -- ---- one command
 
 abbrev pub command_result : Sizes → DeviceState → HostCommand → HostResult
-command_result s d (commands.Request bytes) = results.Answered (answer_to s d bytes)
+command_result s d (commands.Request bytes) = results.Answered (sure_answer s d bytes)
 command_result s d commands.Config = results.Config (config_of s d)
 
 -- the device's actions
 abbrev pub command_actions : Sizes → DeviceState → HostCommand → List DeviceAction
-command_actions s d (commands.Request bytes) = request_action bytes (answer_to s d bytes) ∷ []
+command_actions s d (commands.Request bytes) = request_action bytes (sure_answer s d bytes) ∷ []
 command_actions s d commands.Config = []
 
 -- the blocks that are plugged, which the driver puts online
 abbrev pub command_range : Sizes → DeviceState → HostCommand → BlockRange
-command_range s d (commands.Request bytes) = plugged_by s (request_in bytes) (answer_to s d bytes)
+command_range s d (commands.Request bytes) = plugged_by s (request_in bytes) (sure_answer s d bytes)
 command_range s d commands.Config = no_blocks
 
 -- the device behind the command
@@ -102,19 +104,7 @@ host_onlines s d (c ∷ cs) = onlines_of (command_range s d c) ++ host_onlines s
 -- the line of each command, where the first has this number
 abbrev pub host_lines : Sizes → DeviceState → (number : ℕ) → List HostCommand → List HostLine
 host_lines s d number [] = []
-host_lines s d number (c ∷ cs) = record { no = number; result = command_result s d c } ∷ host_lines s (after_command s d c) (suc number) cs
+host_lines s d number (c ∷ cs) = record { no = number; result = command_result s d c; tried = [] } ∷ host_lines s (after_command s d c) (suc number) cs
 
 abbrev pub host_runs : List HostCommand → List HostLine → List HostRun
 host_runs commands lines = map (λ x. record { command = x.0; line = x.1 }) (zip commands lines)
-
--- ---- the device's journal
-
--- an answer to a request is the device's answer in that state
-abbrev pub IsAnswered : Sizes → DeviceState → DeviceAct → Type 0
-IsAnswered s d (acts.Request bytes response) = response ≡ answer_to s d bytes
-IsAnswered s d act = Unit {0}
-
--- each answer is the device's by the actions before it
-abbrev pub AreAnswered : Sizes → DeviceState → List DeviceAction → Type 0
-AreAnswered s d [] = Unit {0}
-AreAnswered s d (a ∷ actions) = IsAnswered s d a.act × AreAnswered s (device_after s d (a ∷ [])) actions

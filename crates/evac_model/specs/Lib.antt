@@ -11,6 +11,7 @@ pub mod FreeRuns
 pub mod SpaceJournal
 pub mod DeviceBlocks
 pub mod DeviceAnswer
+pub mod DeviceJournal
 pub mod HostCommands
 pub mod Notices
 pub mod MappedExactly

@@ -1,5 +1,5 @@
 -- What a listener maps: what the notices of its key leave, and that this is exactly the plugged blocks.
-use Rattle.std.specs.Prelude.{◌≡◌, ℕ, Bool, true, false, ◌==◌, if◌then◌else◌, List, [], ◌∷◌, Option, None, Some}
+use Rattle.std.specs.Prelude.{◌≡◌, ℕ, Bool, false, ◌==◌, if◌then◌else◌, List, [], ◌∷◌, Option, None, Some}
 use Rattle.evac_model.specs.declared.device_journal.Notice.{Notice}
 use Rattle.evac_model.specs.declared.device_journal.Told.{Told}
 use Rattle.evac_model.specs.declared.device_journal.Told.TheVariants.{PopulateOk, PopulateRefused, Discard}

@@ -1,16 +1,16 @@
 -- What listeners are told by an action of a memory device, after QEMU's RamDiscardManager.
-use Rattle.std.specs.Prelude.{ℕ, Bool, ◌==◌, nat_lt, if◌then◌else◌, List, [], ◌∷◌, ◌++◌, map, flat_map, length, filter, Option, None, Some}
+use Rattle.std.specs.Prelude.{ℕ, nat_lt, List, [], ◌∷◌, ◌++◌, map, flat_map, filter, Option, None, Some}
 use Rattle.evac_model.specs.declared.device.Request.{Request}
 use Rattle.evac_model.specs.declared.device.Request.TheVariants as requests
 use Rattle.evac_model.specs.declared.device.Response.{Response}
-use Rattle.evac_model.specs.declared.device.Response.TheVariants.{Ack, Nack, Busy, Error}
+use Rattle.evac_model.specs.declared.device.Response.TheVariants.{Ack, Busy}
 use Rattle.evac_model.specs.declared.device_journal.DeviceAct.{DeviceAct}
 use Rattle.evac_model.specs.declared.device_journal.DeviceAct.TheVariants as acts
 use Rattle.evac_model.specs.declared.device_journal.Notice.{Notice}
 use Rattle.evac_model.specs.declared.device_journal.Told.{Told}
 use Rattle.evac_model.specs.declared.device_journal.Told.TheVariants.{PopulateOk, PopulateRefused, Discard}
 use Rattle.evac_model.specs.Geometry.{Sizes}
-use Rattle.evac_model.specs.DeviceAnswer.{DeviceState, block_at, request_in}
+use Rattle.evac_model.specs.DeviceAnswer.{block_at, request_in}
 
 -- the listener of a key is told something of n blocks from first on; a listener that was refused has no key
 abbrev pub notice : Option ℕ → (first n : ℕ) → Told → Notice

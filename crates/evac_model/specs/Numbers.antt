@@ -36,6 +36,11 @@ without_range first n xs = filter (λ b. not (is_between first (first + n) b)) x
 abbrev pub rising : List ℕ → List ℕ
 rising xs = numbers_where (λ b. is_in b xs) (end_of xs)
 
+-- no number stands in a list twice
+abbrev pub AreDistinct : List ℕ → Type 0
+AreDistinct [] = Unit {0}
+AreDistinct (x ∷ xs) = (is_in x xs ≡ false) × AreDistinct xs
+
 -- the list is rising, and each of its numbers is below the bound
 abbrev pub IsRisingBelow : (bound : ℕ) → List ℕ → Type 0
 IsRisingBelow bound xs = xs ≡ numbers_where (λ b. is_in b xs) bound

@@ -3,6 +3,7 @@
 use crate::device::{Config, Response};
 use crate::list::Listed;
 use crate::request_bytes::RequestBytes;
+use crate::tried::TriedList;
 
 /// A command of the host.
 #[derive(Clone, Copy, Debug, PartialEq, Eq)]
@@ -24,21 +25,25 @@ pub type CommandList = Listed<HostCommand>;
 pub enum HostResult {
     /// The device's answer to a request.
     Answered(Response),
+    /// The request wasn't sent: a block that it unplugs couldn't be emptied.
+    Unsent,
     /// The device's configuration.
     Config(Config),
 }
 
 /// What is said of a command that has ended.
-#[derive(Clone, Copy, Debug, PartialEq, Eq)]
+#[derive(Debug, Drop)]
 pub struct HostLine {
     /// The number of the command, from 0.
     pub no: u64,
     /// What it gave.
     pub result: HostResult,
+    /// The blocks that it tried, in order.
+    pub tried: TriedList,
 }
 
 /// A command with its line.
-#[derive(Clone, Copy, Debug, PartialEq, Eq)]
+#[derive(Debug, Drop)]
 pub struct HostRun {
     /// The command.
     pub command: HostCommand,

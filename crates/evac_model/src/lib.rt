@@ -20,6 +20,7 @@ mod request_bytes;
 mod scenario;
 mod slot;
 mod space;
+mod tried;
 
 pub use call::Call;
 pub use cells::Cells;
@@ -44,4 +45,5 @@ pub use scenario::{
     Actor, CallList, Drawn, LineCause, Scenario, ScenarioFault, ScriptList, StartPage,
     StartPageList, Turn, TurnList,
 };
-pub use space::{IsolateFault, LeaseFault, NotEmpty, SpaceAction, Unmovable};
+pub use space::{IsolateFault, LeaseFault, MoveLeaseFault, NotEmpty, SpaceAction, Unmovable};
+pub use tried::{Tried, TriedList, TriedResult};

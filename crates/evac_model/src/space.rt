@@ -75,6 +75,22 @@ pub enum LeaseFault {
     OutOfMemory,
 }
 
+/// Why a page of an isolated block got no target.
+#[derive(Clone, Copy, Debug, PartialEq, Eq)]
+pub enum MoveLeaseFault {
+    /// No frame that takes the page is free outside isolated blocks.
+    NoTarget {
+        /// The frame of the page.
+        from: FrameNo,
+        /// The page.
+        page: PageNo,
+        /// The length of the space journal then.
+        at: u64,
+    },
+    /// There was no memory for the journal.
+    OutOfMemory,
+}
+
 /// Why a block wasn't isolated.
 #[derive(Clone, Copy, Debug, PartialEq, Eq)]
 pub enum IsolateFault {

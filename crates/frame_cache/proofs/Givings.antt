@@ -6,11 +6,11 @@ use Rattle.std.proofs.lemmas.Bool.{false≢true, eqb-true, and_left, or_from, or
 use Rattle.std.proofs.lemmas.List.Folds.{list_any_more, list_any_at, concat-append}
 use Rattle.std.proofs.lemmas.List.{take-append-drop, drop_more, take_more, take_all, reverse-append, reverse-reverse, length-reverse, length-take-le}
 use Rattle.evac_model.specs.Geometry.{frame_count}
-use Rattle.evac_model.specs.Numbers.{numbers_where, is_in, is_between}
+use Rattle.evac_model.specs.Numbers.{numbers_where, is_in, is_between, AreDistinct}
 use Rattle.evac_model.specs.SpaceJournal.{is_frame_in}
 use Rattle.evac_model.proofs.Numbers.{numbers_agree, is_in-numbers_where, numbers_rising}
 use Rattle.buddy.specs.FreeFrames.{FreeFrames, with_frames, AreApart}
-use Rattle.frame_cache.specs.Drains.{AreDistinct, AreRising, IsGivable, IsDrainable, IsDrainableCache}
+use Rattle.frame_cache.specs.Drains.{AreRising, IsGivable, IsDrainable, IsDrainableCache}
 use Rattle.frame_cache.proofs.Members.{is_in_more, is_in-reverse, is_in-get_or, is_in_before, is_in-concat, distinct_left, distinct_right, distinct_apart, distinct-reverse}
 use Rattle.evac_model.proofs.Filters.{length-filter-le}
 use Rattle.evac_model.proofs.Ranges.{between_one}

@@ -4,8 +4,7 @@ use Rattle.std.specs.List.{list_any, concat}
 use Rattle.std.proofs.Math.Dec.{eqb}
 use Rattle.std.proofs.lemmas.Bool.{eqb-true, eq-eqb, or_parts, or_from, or_left, or_right, both_ways, false_from_ne_true}
 use Rattle.std.proofs.lemmas.List.{take_more, drop_more, take-append-drop, reverse-append}
-use Rattle.evac_model.specs.Numbers.{is_in}
-use Rattle.frame_cache.specs.Drains.{AreDistinct}
+use Rattle.evac_model.specs.Numbers.{is_in, AreDistinct}
 use Rattle.std.proofs.Math.Bool.{or-false, or_comm}
 use Rattle.evac_model.proofs.Members.{is_in-append}
 

@@ -1,19 +1,14 @@
 -- What the caches keep, and when frames of theirs can be drained to the runs.
-use Rattle.std.specs.Prelude.{◌≡◌, ℕ, ◌<◌, ◌≤◌, true, false, List, [], ◌∷◌, length, slice_index_or}
+use Rattle.std.specs.Prelude.{◌≡◌, ℕ, ◌<◌, ◌≤◌, true, List, [], length, slice_index_or}
 use Rattle.std.specs.List.{list_any, concat}
 use Rattle.evac_model.specs.Geometry.{IsWithinLimits, frame_count}
-use Rattle.evac_model.specs.Numbers.{is_in, IsRisingBelow}
+use Rattle.evac_model.specs.Numbers.{is_in, AreDistinct, IsRisingBelow}
 use Rattle.buddy.specs.FreeFrames.{FreeFrames, IsNeither}
 
 -- 17 caches, of at most 8 frames each
 pub record AreCaches (caches : List (List ℕ)) : Type 0 where
   pub callers : length caches ≡ 17
   pub few : (who : ℕ) → length (slice_index_or caches who []) ≤ 8
-
--- no number stands in a list twice
-abbrev pub AreDistinct : List ℕ → Type 0
-AreDistinct [] = Unit {0}
-AreDistinct (x ∷ xs) = (is_in x xs ≡ false) × AreDistinct xs
 
 -- the frame is one of the machine's, and neither free nor kept aside
 abbrev pub IsGivable : FreeFrames → (frame : ℕ) → Type 0

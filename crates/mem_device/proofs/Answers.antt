@@ -15,8 +15,8 @@ use Rattle.evac_model.proofs.Ranges.{between_below, between_above}
 use Rattle.block_map.specs.Blocks.{state_told}
 use Rattle.block_map.proofs.States.{all_plugged, none_plugged}
 use Rattle.evac_model.specs.Counts.{Calls}
-use Rattle.evac_model.specs.DeviceAnswer.{unplugged_blocks}
-use Rattle.mem_device.specs.Answering.{IsAnswer, asks_backing, named_blocks}
+use Rattle.evac_model.specs.DeviceAnswer.{unplugged_blocks, named_blocks, asks_backing}
+use Rattle.mem_device.specs.Answering.{IsAnswer}
 use Rattle.mem_device.specs.Managed.{IsManaged}
 use Rattle.mem_device.specs.declared.memory.Memory.{Memory}
 use Rattle.evac_model.proofs.Members.{is_in-range_with_len}

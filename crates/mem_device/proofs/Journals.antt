@@ -10,12 +10,8 @@ use Rattle.evac_model.specs.declared.device_journal.Notice.{Notice}
 use Rattle.evac_model.specs.declared.device_journal.DeviceAct.TheVariants as acts
 use Rattle.evac_model.specs.declared.device_journal.DeviceAction.{DeviceAction}
 use Rattle.evac_model.specs.Geometry.{Sizes, block_bytes}
-use Rattle.evac_model.specs.DeviceAnswer.{DeviceState, device_after, device_at_start, after_act, after_answer, request_in}
-
--- one action more
-pub device_after-push : (s : Sizes) (d : DeviceState) (journal : List DeviceAction) (a : DeviceAction) → device_after s d (journal ++ a ∷ []) ≡ after_act s (device_after s d journal) a.act
-device_after-push s d [] a = refl
-device_after-push s d (x ∷ journal) a = device_after-push s (after_act s d x.act) journal a
+use Rattle.evac_model.specs.DeviceAnswer.{DeviceState, device_after, device_at_start, after_answer, request_in}
+use Rattle.evac_model.proofs.DeviceJournal.{device_after-push}
 
 -- the state at the start
 pub started : (s sizes : Sizes) (plugged : List ℕ) (requested : ℕ) (d : DeviceState) → sizes ≡ s → plugged ≡ range_with_len 0 s.plugged → requested ≡ length plugged * block_bytes sizes → d ≡ record { plugged = plugged; requested = requested; migrating = false } → d ≡ device_at_start sizes

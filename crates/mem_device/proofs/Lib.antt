@@ -4,4 +4,3 @@ pub mod Answers
 pub mod Journals
 pub mod HandParts
 pub mod Busy
-pub mod NamedBlocks

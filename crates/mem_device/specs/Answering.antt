@@ -1,31 +1,14 @@
 -- How a device answers a request: the response, the backing, and which blocks change hands.
-use Rattle.std.specs.Prelude.{◌≡◌, ◌↔◌, ℕ, Bool, true, false, ◌==◌, ◌&&◌, ◌⊎◌, not, if◌then◌else◌, List, [], length, Option, None, Some}
+use Rattle.std.specs.Prelude.{◌≡◌, ◌↔◌, ℕ, Bool, true, false, ◌⊎◌, List, [], Option, Some}
 use Rattle.std.specs.List.{range_with_len}
 use Rattle.std.specs.Option.{option_map}
 use Rattle.evac_model.specs.declared.device.Request.{Request}
-use Rattle.evac_model.specs.declared.device.Request.TheVariants.{Plug, Unplug, UnplugAll, State}
+use Rattle.evac_model.specs.declared.device.Request.TheVariants.{Plug, Unplug, UnplugAll}
 use Rattle.evac_model.specs.declared.device.Response.{Response}
 use Rattle.evac_model.specs.declared.device.Response.TheVariants.{Ack, Nack, Busy, Error}
 use Rattle.evac_model.specs.Geometry.{Sizes}
-use Rattle.evac_model.specs.DeviceAnswer.{DeviceState, block_at, is_good_range, are_plugged, device_answer}
+use Rattle.evac_model.specs.DeviceAnswer.{DeviceState, block_at, asks_backing, device_answer}
 use Rattle.evac_model.specs.Counts.{Calls, after_call, IsListed, Rose, WhereTold}
-
--- the plugged blocks that an UNPLUG of a good range that is all plugged, or an UNPLUG_ALL, names
-abbrev pub named_blocks : Sizes → (plugged : List ℕ) → Option Request → List ℕ
-named_blocks s plugged None = []
-named_blocks s plugged (Some (Plug addr count)) = []
-named_blocks s plugged (Some (Unplug addr count)) =
-    if is_good_range s addr count && are_plugged plugged (block_at s addr) count then range_with_len (block_at s addr) count else []
-named_blocks s plugged (Some UnplugAll) = plugged
-named_blocks s plugged (Some (State addr count)) = []
-
--- whether the answer depends on the backing
-abbrev pub asks_backing : Sizes → DeviceState → Option Request → Bool
-asks_backing s d None = false
-asks_backing s d (Some (Plug addr count)) = false
-asks_backing s d (Some (Unplug addr count)) = is_good_range s addr count && (are_plugged d.plugged (block_at s addr) count && not d.migrating)
-asks_backing s d (Some UnplugAll) = not (length d.plugged == 0) && not d.migrating
-asks_backing s d (Some (State addr count)) = false
 
 -- The response is the device's answer, where `refused` says that the backing failed: only where it was asked and its
 -- count of faults rose, and where its calls are told, exactly where the call is a listed one.

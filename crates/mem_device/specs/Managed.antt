@@ -9,7 +9,7 @@ use Rattle.evac_model.specs.DeviceBlocks.{device_blocks}
 use Rattle.evac_model.specs.Numbers.{IsRisingBelow}
 use Rattle.evac_model.specs.DeviceAnswer.{DeviceState, unplug_answer}
 use Rattle.evac_model.specs.DeviceAnswer.{unplugged_blocks}
-use Rattle.mem_device.specs.Answering.{asks_backing}
+use Rattle.evac_model.specs.DeviceAnswer.{asks_backing}
 use Rattle.mem_device.specs.declared.memory.Memory.{Memory}
 
 module _ {B H : Type 0} where

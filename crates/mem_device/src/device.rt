@@ -46,9 +46,9 @@ impl<L, B, H: Held> Model for Device<L, B, H> {
 
 impl<L: Listener, B: Backing, H: Held> Device<L, B, H> {
     ghost use Rattle.std.specs.Prelude.{◌≡◌, ◌≤◌, ◌++◌, ◌∷◌, [], ◌↔◌, length, Err, IfOk, IfErr, OnOk, OnErr};
-    ghost use Rattle.evac_model.specs.DeviceAnswer.{request_in, config_of, unplugged_blocks};
+    ghost use Rattle.evac_model.specs.DeviceAnswer.{request_in, config_of, unplugged_blocks, asks_backing, named_blocks};
     ghost use Rattle.evac_model.specs.HostCommands.{request_action};
-    ghost use Rattle.mem_device.specs.Answering.{IsAnswer, IsAsked, IsBack, asks_backing, named_blocks};
+    ghost use Rattle.mem_device.specs.Answering.{IsAnswer, IsAsked, IsBack};
     ghost use Rattle.mem_device.specs.DeviceView.{device_state, requested_action, IsBadSize};
 
     /// Answers a request of at most 64 bytes (Virtio 1.2, 5.15.6). For an UNPLUG of a good range that

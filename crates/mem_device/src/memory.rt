@@ -3,8 +3,8 @@
 ghost use Rattle.std.specs.Prelude.{◌≡◌, ℕ, ◌+◌, ◌≤◌, ◌<◌, [], true, false, Some, IfOk, IfErr};
 ghost use Rattle.evac_model.specs.declared.device.Request.TheVariants as requests;
 ghost use Rattle.evac_model.specs.DeviceBlocks.{device_blocks};
-ghost use Rattle.evac_model.specs.DeviceAnswer.{block_at, are_plugged, are_unplugged, plug_answer, state_answer, after_answer};
-ghost use Rattle.mem_device.specs.Answering.{IsAnswer, IsAsked, IsBack, IsRefusal, asks_backing, named_blocks};
+ghost use Rattle.evac_model.specs.DeviceAnswer.{block_at, are_plugged, are_unplugged, named_blocks, asks_backing, plug_answer, state_answer, after_answer};
+ghost use Rattle.mem_device.specs.Answering.{IsAnswer, IsAsked, IsBack, IsRefusal};
 ghost use Rattle.mem_device.specs.Managed.{IsManaged, state_in, cause_answer, IsUnplugCause};
 
 use crate::range::{is_plugged, is_unplugged, range_at, size_with};

@@ -3,7 +3,7 @@
 ghost use Rattle.std.specs.Prelude.{◌≡◌, ◌≢◌, ◌+◌, ◌≤◌, Some};
 ghost use Rattle.std.specs.List.{range_with_len};
 ghost use Rattle.evac_model.specs.declared.device.Request.{Request};
-ghost use Rattle.mem_device.specs.Answering.{named_blocks};
+ghost use Rattle.evac_model.specs.DeviceAnswer.{named_blocks};
 ghost use Rattle.evac_model.specs.DeviceBlocks.{device_blocks};
 ghost use Rattle.evac_model.specs.DeviceAnswer.{request_in};
 ghost use Rattle.evac_model.specs.HostCommands.{range_blocks, requested_blocks, plugged_by};

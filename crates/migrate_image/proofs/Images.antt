@@ -1,11 +1,11 @@
 -- What is read is an image, spelled so; and what is spelled so is read.
 use Rattle.std.proofs.Common.{◌≡◌, ℕ, zero, suc, ◌+◌, ◌^◌, ◌<◌, ◌≤◌, Bool, true, false, cond, eqb, List, [], ◌∷◌, ◌++◌, length, Result, Ok, Err, refl, sym, ap, subst, ◌∙◌, append_assoc, arith}
 use Rattle.std.specs.List.{AllByRecursion, flat_map}
-use Rattle.std.proofs.lemmas.Bool.{and_parts, leb-true, ltb-true, eqb-true, eq-eqb}
+use Rattle.std.proofs.lemmas.Bool.{eqb-true, eq-eqb}
 use Rattle.std.proofs.lemmas.List.{append-nil}
 use Rattle.evac_model.specs.declared.names.BlockNo.{BlockNo}
 use Rattle.evac_model.specs.Numbers.{is_in, is_between}
-use Rattle.evac_model.proofs.Ranges.{between_inside}
+use Rattle.evac_model.proofs.Ranges.{between_inside, between_bounds}
 use Rattle.migrate_image.specs.declared.frame.ImageFrame.{ImageFrame}
 use Rattle.migrate_image.specs.declared.fault.ImageFault.{ImageFault}
 use Rattle.migrate_image.specs.declared.fault.ImageFault.TheVariants.{BadHeader, BadFrame, Repeated}
@@ -17,9 +17,6 @@ use Rattle.migrate_image.proofs.Fields.{IsBytes, Takes, Takes-then, bind_ok, gua
 -- numbers of 64 bits
 abbrev pub AreWords : List ℕ → Type 0
 AreWords cells = AllByRecursion (λ c. c < 2 ^ 64) cells
-
-inside_between : (first last b : ℕ) → is_between first last b ≡ true → (first ≤ b) × (b < last)
-inside_between first last b h = let p = and_parts _ _ h in (leb-true _ _ p.0, ltb-true _ _ p.1)
 
 -- ---- blocks
 
@@ -39,7 +36,7 @@ blocks_take bound read least (suc n) bytes x fits e =
     let b = bind_ok (le32_at bytes) (λ b. cond (is_between least bound b.0) (blocks_at bound (read ++ record { 0 = b.0 } ∷ []) (b.0 + 1) n b.1) (Err BadHeader)) x e in
     let block : BlockNo = record { 0 = b.0.0 } in
     let g = guarded (is_between least bound b.0.0) BadHeader (blocks_at bound (read ++ block ∷ []) (b.0.0 + 1) n b.0.1) x b.2 in
-    let inside = inside_between least bound b.0.0 g.0 in
+    let inside = between_bounds least bound b.0.0 g.0 in
     let first = le32_takes bytes b.0 fits b.1 in
     let others = blocks_take bound (read ++ block ∷ []) (b.0.0 + 1) n b.0.1 x first.0.rest_fits g.1 in
     record {

@@ -9,7 +9,7 @@ use Rattle.resize.specs.declared.action.ResizeAction.TheVariants as action
 use Rattle.resize.specs.declared.seen.ResizeSeen.{ResizeSeen}
 use Rattle.resize.specs.declared.stage.Stage.{Stage}
 use Rattle.resize.specs.declared.stage.Stage.TheVariants.{Plugging, Joining, Evacuating, Leaving, Zeroing, Unplugging, Returning, Settled, Short}
-use Rattle.resize.specs.declared.tried.Tried.{Tried}
+use Rattle.evac_model.specs.declared.tried.Tried.{Tried}
 use Rattle.resize.specs.Tries.{Exchange}
 use Rattle.resize.specs.Trying.{Resizing, to_try, stage_for, at_start, action_at, action_of, resize_after}
 use Rattle.resize.specs.UnderWay.{block_of, part_log, Stands, GoesBy, HasSettled, HasShort}

@@ -11,9 +11,9 @@ use Rattle.resize.specs.declared.seen.ResizeSeen.{ResizeSeen}
 use Rattle.resize.specs.declared.seen.ResizeSeen.TheVariants as seen
 use Rattle.resize.specs.declared.stage.Stage.{Stage}
 use Rattle.resize.specs.declared.stage.Stage.TheVariants.{Plugging, Joining, Evacuating, Leaving, Zeroing, Unplugging, Returning, Short}
-use Rattle.resize.specs.declared.tried.Tried.{Tried}
-use Rattle.resize.specs.declared.tried.TriedResult.{TriedResult}
-use Rattle.resize.specs.declared.tried.TriedResult.TheVariants as result
+use Rattle.evac_model.specs.declared.tried.Tried.{Tried}
+use Rattle.evac_model.specs.declared.tried.TriedResult.{TriedResult}
+use Rattle.evac_model.specs.declared.tried.TriedResult.TheVariants as result
 use Rattle.resize.specs.Tries.{Exchange, gave, IsRefusal, IsTold, count_after, IsAdded, IsGoneOrKept}
 use Rattle.resize.specs.Trying.{Resizing, action_at, answers, stage_for, try_over, after_answer, resize_after, action_of}
 use Rattle.resize.specs.UnderWay.{block_of, part_log, IsAdding, IsRemoving, Stands, GoesBy, IsTrueAt, IsTrue}

@@ -5,9 +5,9 @@ use Rattle.std.specs.List.{AllByRecursion}
 use Rattle.evac_model.specs.declared.device.Response.{Response}
 use Rattle.evac_model.specs.declared.device.Response.TheVariants.{Ack, Nack, Busy, Error}
 use Rattle.evac_model.specs.Geometry.{Sizes}
-use Rattle.resize.specs.declared.tried.Tried.{Tried}
-use Rattle.resize.specs.declared.tried.TriedResult.{TriedResult}
-use Rattle.resize.specs.declared.tried.TriedResult.TheVariants as result
+use Rattle.evac_model.specs.declared.tried.Tried.{Tried}
+use Rattle.evac_model.specs.declared.tried.TriedResult.{TriedResult}
+use Rattle.evac_model.specs.declared.tried.TriedResult.TheVariants as result
 use Rattle.resize.specs.Tries.{Exchange, IsTold, AreTold, count_after, plugged_after, NoneAtGoal, IsAdded, IsGoneOrKept}
 use Rattle.resize.specs.UnderWay.{block_of}
 

@@ -12,9 +12,9 @@ use Rattle.resize.specs.declared.action.ResizeAction.{ResizeAction}
 use Rattle.resize.specs.declared.action.ResizeAction.TheVariants.{Plug, Online, Evacuate, Offline, Zero, Unplug}
 use Rattle.resize.specs.declared.seen.ResizeSeen.{ResizeSeen}
 use Rattle.resize.specs.declared.seen.ResizeSeen.TheVariants.{Answered, Emptied, Failed, Done}
-use Rattle.resize.specs.declared.tried.Tried.{Tried}
-use Rattle.resize.specs.declared.tried.TriedResult.{TriedResult}
-use Rattle.resize.specs.declared.tried.TriedResult.TheVariants as result
+use Rattle.evac_model.specs.declared.tried.Tried.{Tried}
+use Rattle.evac_model.specs.declared.tried.TriedResult.{TriedResult}
+use Rattle.evac_model.specs.declared.tried.TriedResult.TheVariants as result
 
 -- an action, and what it gave
 pub record Exchange : Type 0 where

@@ -11,9 +11,9 @@ use Rattle.resize.specs.declared.seen.ResizeSeen.{ResizeSeen}
 use Rattle.resize.specs.declared.seen.ResizeSeen.TheVariants as seen
 use Rattle.resize.specs.declared.stage.Stage.{Stage}
 use Rattle.resize.specs.declared.stage.Stage.TheVariants.{Plugging, Joining, Evacuating, Leaving, Zeroing, Unplugging, Returning, Settled, Short}
-use Rattle.resize.specs.declared.tried.Tried.{Tried}
-use Rattle.resize.specs.declared.tried.TriedResult.{TriedResult}
-use Rattle.resize.specs.declared.tried.TriedResult.TheVariants as result
+use Rattle.evac_model.specs.declared.tried.Tried.{Tried}
+use Rattle.evac_model.specs.declared.tried.TriedResult.{TriedResult}
+use Rattle.evac_model.specs.declared.tried.TriedResult.TheVariants as result
 
 -- The machine's sizes; the goal, in blocks; the blocks to be tried, in order; how many blocks are plugged
 -- now; what came of those that were tried; and where the resize stands.

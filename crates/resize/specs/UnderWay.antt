@@ -11,8 +11,8 @@ use Rattle.resize.specs.declared.seen.ResizeSeen.{ResizeSeen}
 use Rattle.resize.specs.declared.seen.ResizeSeen.TheVariants as seen
 use Rattle.resize.specs.declared.stage.Stage.{Stage}
 use Rattle.resize.specs.declared.stage.Stage.TheVariants.{Plugging, Joining, Evacuating, Leaving, Zeroing, Unplugging, Returning, Settled, Short}
-use Rattle.resize.specs.declared.tried.Tried.{Tried}
-use Rattle.resize.specs.declared.tried.TriedResult.TheVariants as result
+use Rattle.evac_model.specs.declared.tried.Tried.{Tried}
+use Rattle.evac_model.specs.declared.tried.TriedResult.TheVariants as result
 use Rattle.resize.specs.Tries.{Exchange, gave, emptied_log, IsRefusal, AreTold, plugged_after, NoneAtGoal, IsAdded, WasMet, IsGoneOrKept}
 use Rattle.resize.specs.Trying.{Resizing, to_try}
 

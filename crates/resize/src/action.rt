@@ -1,7 +1,6 @@
 //! What a resize does.
 
-use crate::tried::TriedList;
-use evac_model::BlockNo;
+use evac_model::{BlockNo, TriedList};
 
 /// An action of a resize. The last two are its ends; their sizes are in bytes.
 #[derive(Debug, Drop)]

@@ -7,16 +7,14 @@ mod goal;
 mod resize;
 mod seen;
 mod stage;
-mod tried;
 
 pub use action::ResizeAction;
 pub use block_map::BlockMap;
-pub use evac_model::{BlockNo, Geometry, OutOfMemory};
+pub use evac_model::{BlockNo, Geometry, OutOfMemory, Tried, TriedList, TriedResult};
 pub use evacuate::EvacCause;
 pub use mem_codec::Response;
 pub use resize::Resize;
 pub use seen::ResizeSeen;
-pub use tried::{Tried, TriedList, TriedResult};
 
 #[cfg(test)]
 mod tests;

@@ -5,9 +5,9 @@ use Rattle.std.proofs.Math.Dec.{eqb}
 use Rattle.std.proofs.Math.ListN.{set}
 use Rattle.std.proofs.lemmas.Bool.{eqb-true, eq-eqb, ne_eqb, or_left, or_right, or_cases, both_ways, false_from_ne_true, cases_lt, cases_eq}
 use Rattle.std.proofs.lemmas.List.{take_all, take_more, set_past, length-set, length-map, length-take, get_or-set_same, get_or-set_other}
-use Rattle.evac_model.specs.Numbers.{is_in}
+use Rattle.evac_model.specs.Numbers.{is_in, AreDistinct}
 use Rattle.evac_model.specs.SpaceJournal.{put_back}
-use Rattle.frame_cache.specs.Drains.{AreCaches, AreDistinct}
+use Rattle.frame_cache.specs.Drains.{AreCaches}
 use Rattle.frame_cache.proofs.Members.{distinct_apart}
 use Rattle.space.proofs.Members.{any-get_or, any-set_in, any-set_same, any-set_new, any-set_gone, is_in_take, distinct-get_or, distinct-set, distinct-take}
 use Rattle.evac_model.proofs.Members.{is_in-append}

@@ -12,15 +12,16 @@ use Rattle.std.proofs.lemmas.List.FromFn.{length-range_with_len}
 use Rattle.evac_model.specs.declared.names.Kind.{Kind}
 use Rattle.evac_model.specs.declared.names.Kind.TheVariants.{Movable, Unmovable}
 use Rattle.evac_model.specs.Geometry.{Sizes, IsWithinLimits, frame_count}
-use Rattle.evac_model.specs.Numbers.{is_in}
+use Rattle.evac_model.specs.Numbers.{is_in, AreDistinct}
+use Rattle.evac_model.proofs.Distinct.{distinct-range_with_len}
 use Rattle.evac_model.specs.FreeRuns.{fits, is_all_free, chosen_run}
 use Rattle.evac_model.specs.SpaceJournal.{SpaceState, Out, Leased, IsLeasable, out_for, is_frame_of, is_frame_in, free_frames, from_cache, from_run, from_runs, one_frame, kernel_run, drained, lease_of, after_lease}
 use Rattle.buddy.proofs.FreeRunLaws.{no_choice}
-use Rattle.frame_cache.specs.Drains.{AreCaches, AreDistinct}
+use Rattle.frame_cache.specs.Drains.{AreCaches}
 use Rattle.space.specs.JournaledSpace.{JournaledSpace, space_state, IsLeasableFor}
 use Rattle.space.specs.SpaceInside.{IsSpace}
 use Rattle.space.proofs.CachesBehind.{set_caches}
-use Rattle.space.proofs.Members.{any-filter, get_or-filter_each, any-set_in, any-set_rest, any-rest_none, any-get_or, distinct-set, distinct-range_with_len, distinct-get_or}
+use Rattle.space.proofs.Members.{any-filter, get_or-filter_each, any-set_in, any-set_rest, any-rest_none, any-get_or, distinct-set, distinct-get_or}
 use Rattle.space.proofs.Spaces.{IsFreeFrame, free_frame, free_frame_in, one_free, drained_space}
 use Rattle.space.proofs.Choices.{IsChosenRun, chosen, few_frames}
 use Rattle.evac_model.proofs.Members.{is_in-range_with_len}

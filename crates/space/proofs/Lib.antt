@@ -8,6 +8,7 @@ pub mod Opens
 pub mod Journals
 pub mod Refused
 pub mod NextOut
+pub mod NextAlone
 pub mod Puts
 pub mod Spaces
 pub mod Choices

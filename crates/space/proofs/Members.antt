@@ -1,15 +1,14 @@
 -- Which numbers stand in which lists of lists.
-use Rattle.std.proofs.Common.{◌≡◌, ℕ, zero, suc, ◌+◌, ◌<◌, Bool, true, false, cond, ◌&&◌, ◌||◌, List, [], ◌∷◌, ◌++◌, map, take, drop, length, get_or, set, refl, sym, ap, subst, ◌∙◌, arith, ◌⊎◌, inl, inr}
-use Rattle.std.specs.List.{filter, list_any, concat, range_with_len}
+use Rattle.std.proofs.Common.{◌≡◌, ℕ, zero, suc, ◌<◌, Bool, true, false, ◌&&◌, ◌||◌, List, [], ◌∷◌, ◌++◌, map, take, drop, length, get_or, set, refl, sym, ap, subst, ◌∙◌, arith, ◌⊎◌, inl, inr}
+use Rattle.std.specs.List.{filter, list_any, concat}
 use Rattle.std.proofs.Math.Dec.{eqb}
 use Rattle.std.proofs.lemmas.List.{take-append-drop}
 use Rattle.std.proofs.lemmas.List.Elements.{filter-append}
-use Rattle.std.proofs.lemmas.Bool.{eq-eqb, or_parts, or_cases, or_from, or_left, or_right, and_left, both_ways, false_from_ne_true, true≢false}
-use Rattle.evac_model.specs.Numbers.{is_in}
-use Rattle.evac_model.proofs.Ranges.{between_below}
-use Rattle.frame_cache.specs.Drains.{AreDistinct}
+use Rattle.std.proofs.lemmas.Bool.{eq-eqb, or_parts, or_cases, or_from, or_left, or_right, both_ways, false_from_ne_true, true≢false}
+use Rattle.evac_model.specs.Numbers.{is_in, AreDistinct}
+use Rattle.evac_model.proofs.Distinct.{distinct-filter}
 use Rattle.frame_cache.proofs.Members.{is_in-concat, distinct_left, distinct_right, distinct_apart}
-use Rattle.evac_model.proofs.Members.{is_in-append, is_in-filter, is_in-range_with_len}
+use Rattle.evac_model.proofs.Members.{is_in-append, is_in-filter}
 use Rattle.std.proofs.Math.Bool.{or_assoc, and-or_distrib_right}
 
 pub any-filter : (t : ℕ → Bool) (f : ℕ) (xss : List (List ℕ)) → list_any (is_in f) (map (filter t) xss) ≡ (list_any (is_in f) xss && t f)
@@ -76,20 +75,6 @@ any-set_rest f (ys ∷ yss) (suc who) x xs e =
     ∙ or_swap (is_in f ys) (eqb f x) (list_any (is_in f) (set yss who xs))
 
 -- lists in which no number stands twice
-pub distinct-range_with_len : (a n : ℕ) → AreDistinct (range_with_len a n)
-distinct-range_with_len a zero = tt
-distinct-range_with_len a (suc n) =
-    (is_in-range_with_len a (a + 1) n ∙ between_below (a + 1) (a + 1 + n) a (omega arith), distinct-range_with_len (a + 1) n)
-
-distinct_cond : (b : Bool) (x : ℕ) (xs : List ℕ) → is_in x xs ≡ false → AreDistinct xs → AreDistinct (cond b (x ∷ xs) xs)
-distinct_cond true x xs none h = (none, h)
-distinct_cond false x xs none h = h
-
-pub distinct-filter : (t : ℕ → Bool) (xs : List ℕ) → AreDistinct xs → AreDistinct (filter t xs)
-distinct-filter t [] h = tt
-distinct-filter t (x ∷ xs) h =
-    distinct_cond (t x) x (filter t xs) (is_in-filter t x xs ∙ and_left _ _ h.0) (distinct-filter t xs h.1)
-
 concat_filter : (t : ℕ → Bool) (xss : List (List ℕ)) → concat (map (filter t) xss) ≡ filter t (concat xss)
 concat_filter t [] = refl
 concat_filter t (xs ∷ xss) = ap (λ (ys : List ℕ). filter t xs ++ ys) (concat_filter t xss) ∙ sym (filter-append t xs (concat xss))

@@ -1,6 +1,6 @@
 -- The first frame of a block that is out, or the first one behind a frame: it is of the block and out, and where
 -- there is none, none is out.
-use Rattle.std.proofs.Common.{◌≡◌, ℕ, zero, suc, ◌+◌, ◌-◌, ◌<◌, ◌≤◌, max, true, List, [], ◌∷◌, get_or, refl, sym, ap, ◌∙◌, subst, arith, Option, Some, None}
+use Rattle.std.proofs.Common.{◌≡◌, ℕ, zero, suc, ◌+◌, ◌-◌, ◌<◌, ◌≤◌, max, Bool, true, false, cond, List, [], ◌∷◌, get_or, refl, sym, ap, ◌∙◌, subst, arith, Option, Some, None}
 use Rattle.std.specs.List.{filter, Contains}
 use Rattle.evac_model.specs.declared.names.FrameNo.{FrameNo}
 use Rattle.evac_model.specs.declared.names.Kind.{Kind}
@@ -49,6 +49,13 @@ next_is_out s st block (Some after) at e =
     let behind : ℕ = max (first_frame s block) (after.0 + 1) in
     next_in_block s st block behind (first_frame s block + s.block - behind) at (omega arith) (λ from below. omega (arith, from, below)) e
 
+-- behind a frame, it is a later one
+pub next_is_behind : (s : Sizes) (st : SpaceState) (block : ℕ) (after : FrameNo) (at : FrameNo × PageNo) → next_out s st block (Some after) ≡ Some at → after.0 < (at.0).0
+next_is_behind s st block after at e =
+    let behind : ℕ = max (first_frame s block) (after.0 + 1) in
+    let w : IsFoundOut st.out behind (first_frame s block + s.block - behind) at = found_first st.out behind (first_frame s block + s.block - behind) at e in
+    omega (arith, w.from)
+
 -- so its page is out in an isolated block, if the block is isolated
 pub next_isolated : (s : Sizes) (st : SpaceState) (b : ℕ) (after : Option FrameNo) (found : FrameNo × PageNo) → is_in b st.isolated ≡ true → next_out s st b after ≡ Some found → IsOutInIsolated s st (found.1).0
 next_isolated s st b after found there e =
@@ -75,3 +82,33 @@ emptied_next s st b h = ap first_page (emptied_none s st b h)
 -- where no frame is out for an unmovable page, movable ones are alone
 pub movable_none : (s : Sizes) (st : SpaceState) (b : ℕ) → first_unmovable s st b ≡ None → HasMovableAlone s st b
 movable_none s st b e = movable_alone s st b (no_first (filter is_unmovable (frames_out_of s st b)) e)
+
+-- the frame that refuses an isolation is of the block, too
+first_inside : (first n : ℕ) (o : Out) (rest : List (ℕ × Out)) (found : FrameNo × PageNo) → first_page ((first, o) ∷ rest) ≡ Some found → (first ≤ (found.0).0) × ((found.0).0 < first + suc n)
+first_inside first n o rest found e =
+    let frame : FrameNo = record { 0 = first } in
+    let page : PageNo = record { 0 = o.page } in
+    let same : (frame, page) ≡ found = cc e in
+    subst (λ (x : FrameNo × PageNo). (first ≤ (x.0).0) × ((x.0).0 < first + suc n)) same (omega arith, omega arith)
+
+unmovable_inside : (out : List (Option Out)) (first n : ℕ) (found : FrameNo × PageNo) → first_page (filter is_unmovable (frames_out out first n)) ≡ Some found → (first ≤ (found.0).0) × ((found.0).0 < first + n)
+unmovable_inside out first zero found e = absurd (cc e)
+unmovable_inside out first (suc n) found e = at (get_or out first None) e (λ later. unmovable_inside out (first + 1) n found later)
+  where
+    rest : List (ℕ × Out)
+    rest = filter is_unmovable (frames_out out (first + 1) n)
+
+    behind : (first + 1 ≤ (found.0).0) × ((found.0).0 < first + 1 + n) → (first ≤ (found.0).0) × ((found.0).0 < first + suc n)
+    behind h = (omega (arith, h.0), omega (arith, h.1))
+
+    tested : (o : Out) (t : Bool) → first_page (cond t ((first, o) ∷ rest) rest) ≡ Some found → (first_page rest ≡ Some found → (first + 1 ≤ (found.0).0) × ((found.0).0 < first + 1 + n)) → (first ≤ (found.0).0) × ((found.0).0 < first + suc n)
+    tested o true e later = first_inside first n o rest found e
+    tested o false e later = behind (later e)
+
+    at : (o : Option Out) → first_page (filter is_unmovable (with_frame first o (frames_out out (first + 1) n))) ≡ Some found → (first_page rest ≡ Some found → (first + 1 ≤ (found.0).0) × ((found.0).0 < first + 1 + n)) → (first ≤ (found.0).0) × ((found.0).0 < first + suc n)
+    at None e later = behind (later e)
+    at (Some o) e later = tested o (is_unmovable (first, o)) e later
+
+pub unmovable_in_block : (s : Sizes) (st : SpaceState) (b : ℕ) (found : FrameNo × PageNo) → first_unmovable s st b ≡ Some found → is_frame_of s b (found.0).0 ≡ true
+unmovable_in_block s st b found e =
+    let w = unmovable_inside st.out (first_frame s b) s.block found e in in_block s b (found.0).0 w.0 w.1

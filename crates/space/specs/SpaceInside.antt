@@ -5,11 +5,11 @@ use Rattle.std.specs.Option.{is_some}
 use Rattle.evac_model.specs.declared.names.Kind.{Kind}
 use Rattle.evac_model.specs.declared.names.Kind.TheVariants.{Movable}
 use Rattle.evac_model.specs.Geometry.{Sizes, frame_count}
-use Rattle.evac_model.specs.Numbers.{numbers_where, is_in, IsRisingBelow}
+use Rattle.evac_model.specs.Numbers.{numbers_where, is_in, AreDistinct, IsRisingBelow}
 use Rattle.evac_model.specs.FreeRuns.{fits}
 use Rattle.evac_model.specs.SpaceJournal.{SpaceState, Out, out_for, is_frame_in, free_frames}
 use Rattle.buddy.specs.FreeFrames.{FreeFrames}
-use Rattle.frame_cache.specs.Drains.{AreCaches, AreDistinct}
+use Rattle.frame_cache.specs.Drains.{AreCaches}
 
 -- the frames of isolated blocks that aren't out
 abbrev pub aside_frames : Sizes → SpaceState → List ℕ

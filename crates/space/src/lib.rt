@@ -5,18 +5,16 @@
 mod choose;
 mod kept;
 mod laws;
-mod move_lease_fault;
 mod open;
 mod space;
 
 pub use evac_model::{
-    BlockNo, FrameNo, Geometry, IsolateFault, Kind, LeaseFault, MoveLease, NotEmpty, OutOfMemory,
-    PageNo, SpaceAction, StartPage,
+    BlockNo, FrameNo, Geometry, IsolateFault, Kind, LeaseFault, MoveLease, MoveLeaseFault,
+    NotEmpty, OutOfMemory, PageNo, SpaceAction, StartPage,
 };
 pub use laws::{
     frames_out_fit, frames_out_in_isolated_blocks_are_movable, journals_go_on,
     leased_frames_are_free, leases_keep_spaces, no_frame_out_is_offline, openings_are_spaces,
     refused_leases_have_no_frame, spaces_stay_spaces,
 };
-pub use move_lease_fault::MoveLeaseFault;
 pub use space::Space;

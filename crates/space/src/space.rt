@@ -4,10 +4,9 @@ ghost use Rattle.std.specs.Prelude.{◌≡◌};
 ghost use Rattle.evac_model.specs.declared.space.IsolateFault.{IsolateFault};
 
 use crate::kept::Kept;
-use crate::move_lease_fault::MoveLeaseFault;
 use evac_model::{
-    BlockNo, FrameNo, Geometry, IsolateFault, Kind, LeaseFault, MoveLease, NotEmpty, OutOfMemory,
-    PageNo, SpaceAction, StartPage, Unmovable,
+    BlockNo, FrameNo, Geometry, IsolateFault, Kind, LeaseFault, MoveLease, MoveLeaseFault,
+    NotEmpty, OutOfMemory, PageNo, SpaceAction, StartPage, Unmovable,
 };
 use std::alloc::Global;
 use std::marker::Model;
@@ -66,7 +65,7 @@ impl Space {
     ghost use Rattle.evac_model.specs.declared.names.PageNo.{PageNo};
     ghost use Rattle.evac_model.specs.declared.space.LeaseFault.{LeaseFault};
     ghost use Rattle.page_blocks.specs.Marks.{page_and_kind};
-    ghost use Rattle.space.specs.declared.move_lease_fault.MoveLeaseFault.{MoveLeaseFault};
+    ghost use Rattle.evac_model.specs.declared.space.MoveLeaseFault.{MoveLeaseFault};
     ghost use Rattle.space.specs.JournaledSpace.{space_state, with_action, IsLeasableFor, AreStartFrames};
     ghost use Rattle.space.specs.SpaceInside.{IsSpace};
     ghost use Rattle.space.specs.Refusals.{frames_out_of, first_unmovable, next_out, IsRefusedBy, emptiness};

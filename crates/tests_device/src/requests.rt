@@ -3,7 +3,7 @@
 ghost use Rattle.std.specs.Prelude.{◌≡◌, ◌+◌, ◌-◌, ◌^◌, ◌<◌, ◌≤◌, [], None, IfOk, IfSome};
 ghost use Rattle.std.specs.List.{range_with_len};
 ghost use Rattle.evac_model.specs.DeviceAnswer.{request_in};
-ghost use Rattle.mem_device.specs.Answering.{named_blocks};
+ghost use Rattle.evac_model.specs.DeviceAnswer.{named_blocks};
 ghost use Rattle.mem_device.specs.DeviceView.{device_state};
 
 use crate::small_geometry;

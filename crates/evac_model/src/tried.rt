@@ -1,13 +1,16 @@
 //! What came of each block that was tried.
 
-use evac_model::{BlockNo, EvacCause, Listed, Response};
+use crate::device::Response;
+use crate::evacuation::EvacCause;
+use crate::list::Listed;
+use crate::names::BlockNo;
 
 /// What came of a block.
 #[derive(Clone, Copy, Debug, PartialEq, Eq)]
 pub enum TriedResult {
     /// It was emptied and unplugged.
     Unplugged,
-    /// It was emptied, and a request was sent for it with others. A resize never says so.
+    /// It was emptied for a request that unplugs it. A resize never says so.
     Emptied,
     /// It was emptied, and the device answered its UNPLUG otherwise than ACK: it is plugged still.
     Answered(Response),
