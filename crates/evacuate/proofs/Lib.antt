@@ -1,3 +1,4 @@
+pub mod Starts
 pub mod Frames
 pub mod Rounds
 pub mod Kept

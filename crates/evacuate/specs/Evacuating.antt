@@ -1,5 +1,5 @@
 -- What an evacuation keeps, which answers fit what it asked, and what it does next.
-use Rattle.std.specs.Prelude.{ℕ, ◌+◌, ◌-◌, Bool, true, false, ◌||◌, nat_lt, if◌then◌else◌, List, [], Option, None, Some, slice_index_or, slice_set}
+use Rattle.std.specs.Prelude.{ℕ, ◌+◌, ◌-◌, Bool, true, false, ◌||◌, nat_lt, if◌then◌else◌, List, [], replicate, Option, None, Some, slice_index_or, slice_set}
 use Rattle.std.specs.Option.{option_or}
 use Rattle.evac_model.specs.declared.names.BlockNo.{BlockNo}
 use Rattle.evac_model.specs.declared.names.FrameNo.{FrameNo}
@@ -26,6 +26,14 @@ pub record Evacuating : Type 0 where
   pub round : ℕ
   pub busy : Option MoveLease
   pub words : List (List ℕ)
+
+-- no word for any of at most 512 frames
+abbrev pub no_words : List (List ℕ)
+no_words = replicate 512 (replicate 5 0)
+
+-- the evacuation of a block before its first action
+abbrev pub evacuation_at_start : Sizes → BlockNo → Evacuating
+evacuation_at_start s b = record { sizes = s; block = b; stage = Isolating; round = 0; busy = None; words = no_words }
 
 -- ---- what it asks
 

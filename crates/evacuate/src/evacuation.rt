@@ -53,15 +53,12 @@ impl Evacuation {
     ghost use Rattle.evac_model.specs.SpaceJournal.{is_frame_of};
     ghost use Rattle.evacuate.specs.Tale as tale;
     ghost use Rattle.evacuate.specs.Evacuating as spec;
-    ghost use Rattle.evacuate.specs.declared.stage.Stage.{Stage};
     ghost use Rattle.evacuate.specs.UnderWay.{GoesBy, GoesOnBy, LeasedWasBusy, HasEmptied, HasFailed, log_of};
 
     /// The evacuation of a managed block, before its first action.
     pub fn new(g: Geometry, b: BlockNo) -> Evacuation
         requires { b.0 < g.managed }
-        ensures sizes { result.sizes ≡ g }
-        ensures block { result.block ≡ b }
-        ensures stage { result.stage ≡ Stage.Isolating }
+        ensures start { result ≡ spec.evacuation_at_start g b }
         ensures goes_by { GoesBy result tale.nothing_tried }
     {
         // The limits of the geometry bound the frames of a block.
@@ -76,8 +73,16 @@ impl Evacuation {
         }
     }
 
-    /// The action that the evacuation waits for.
-    fn action(&self) -> EvacAction
+    /// The block.
+    pub fn block(&self) -> BlockNo
+        ensures block { result ≡ self.now.block }
+        ensures managed { result.0 < self.now.sizes.managed }
+    {
+        self.block
+    }
+
+    /// The action that the evacuation waits for: what `next` gave last, or the first one.
+    pub fn action(&self) -> EvacAction
         ensures { result ≡ spec.action_of self.now }
     {
         let block = self.block;

@@ -14,6 +14,7 @@ mod words;
 pub use action::EvacAction;
 pub use evac_model::{BlockNo, EvacCause, FrameNo, Geometry, MoveLease, PageNo};
 pub use evacuation::Evacuation;
+pub use found::{is_busy, is_pinned};
 pub use laws::{evacuations_of_a_small_machine, tales_of_a_small_machine, words_of_a_frame};
 pub use seen::EvacSeen;
 

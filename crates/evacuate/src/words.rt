@@ -1,7 +1,6 @@
 //! The words found for the frames of a block.
 
-ghost use Rattle.std.specs.Prelude.{◌≡◌, ◌<◌, length};
-ghost use Rattle.std.specs.List.{AllByRecursion};
+ghost use Rattle.std.specs.Prelude.{◌≡◌, ◌<◌};
 ghost use Rattle.evacuate.specs.Evacuating as spec;
 
 /// The most frames that a block has.
@@ -9,8 +8,7 @@ pub const FRAMES: usize = 512;
 
 /// No word for any frame: 20 KiB.
 pub fn no_words() -> [[u64; 5]; FRAMES]
-    ensures frames { length result ≡ 512 }
-    ensures rounds { AllByRecursion (λ row. length row ≡ 5) result }
+    ensures { result ≡ spec.no_words }
 {
     [[0; 5]; FRAMES]
 }

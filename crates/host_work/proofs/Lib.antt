@@ -1,4 +1,6 @@
 pub mod Sent
 pub mod ToldBy
+pub mod Parts
+pub mod AsTold
 pub mod Undone
 pub mod Small

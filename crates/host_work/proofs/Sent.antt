@@ -9,9 +9,9 @@ use Rattle.evac_model.specs.declared.device_journal.DeviceAction.{DeviceAction}
 use Rattle.evac_model.specs.declared.space.SpaceAction.{SpaceAction}
 use Rattle.evac_model.specs.DeviceAnswer.{DeviceState, request_in}
 use Rattle.evac_model.specs.Geometry.{Sizes}
-use Rattle.evac_model.specs.HostCommands.{unplugs, plugged_by, onlines_of}
-use Rattle.mem_device.proofs.NamedBlocks.{named_none}
-use Rattle.host_work.specs.Requests.{Evacuates, WasSent, blocks_to_empty, blocks_back, put_online, emptied_lines, AreTakenAway}
+use Rattle.evac_model.specs.HostCommands.{unplugs, plugged_by, put_online, onlines_of}
+use Rattle.evac_model.proofs.DeviceJournal.{named_none}
+use Rattle.host_work.specs.Requests.{Evacuates, WasSent, blocks_to_empty, blocks_back, emptied_lines, AreTakenAway}
 
 -- a list with an element in it isn't empty
 pub some_inside : {X : Type 0} (front : List X) (x : X) (behind : List X) → [] ≢ front ++ x ∷ behind

@@ -1,22 +1,25 @@
 -- Commands of a small machine, worked out by hand.
-use Rattle.std.specs.Prelude.{◌≡◌, ℕ, false, List, [], ◌∷◌, ◌++◌, None, Some}
+use Rattle.std.specs.Prelude.{◌≡◌, ℕ, false, List, [], ◌∷◌, ◌++◌}
 use Rattle.evac_model.specs.declared.device.Response.{Response}
 use Rattle.evac_model.specs.declared.device.Response.TheVariants.{Ack, Busy, Error}
 use Rattle.evac_model.specs.declared.device_journal.DeviceAction.{DeviceAction}
 use Rattle.evac_model.specs.declared.evacuation.EvacCause.{EvacCause}
 use Rattle.evac_model.specs.declared.evacuation.EvacCause.TheVariants as cause
+use Rattle.evac_model.specs.declared.host.HostCommand.{HostCommand}
 use Rattle.evac_model.specs.declared.host.HostCommand.TheVariants.{Request, Config}
+use Rattle.evac_model.specs.declared.host.HostResult.{HostResult}
 use Rattle.evac_model.specs.declared.host.HostResult.TheVariants as results
+use Rattle.evac_model.specs.declared.host.HostRun.{HostRun}
 use Rattle.evac_model.specs.declared.space.SpaceAction.{SpaceAction}
 use Rattle.evac_model.specs.declared.space.SpaceAction.TheVariants.{MoveLease, Return, Isolate, Undo, Offline, Online}
 use Rattle.evac_model.specs.DeviceAnswer.{DeviceState, device_at_start, request_in, config_of}
 use Rattle.evac_model.specs.Geometry.{Sizes}
 use Rattle.evac_model.specs.HostCommands.{request_action}
-use Rattle.resize.specs.declared.tried.Tried.{Tried}
+use Rattle.evac_model.specs.declared.tried.Tried.{Tried}
 use Rattle.evacuate.specs.Examples.{frame_no, page_no}
 use Rattle.host_work.specs.Evacuated.{by_tale}
 use Rattle.host_work.specs.Requests.{block_no, blocks_to_empty, emptied_lines, failed_line}
-use Rattle.host_work.specs.Commands.{Ended, AreDoneBy}
+use Rattle.host_work.specs.Commands.{AreDoneBy}
 
 -- pages of 2 cells, blocks of 4 frames, 2 boot blocks and 4 managed ones, which are all plugged: block 3 has the frames
 -- 20 to 23, and its address is 320
@@ -54,15 +57,19 @@ unplug_all = request 2 0 0 0
 
 -- ---- what was done and reported
 
-abbrev pub answered : List ℕ → Response → List Tried → Ended
-answered bytes response tried = record { command = Request bytes; result = Some (results.Answered response); tried = tried }
+-- the numbers of commands don't count for what they do
+abbrev pub run : HostCommand → HostResult → List Tried → HostRun
+run command result tried = record { command = command; line = record { no = 0; result = result; tried = tried } }
 
-abbrev pub unsent : List ℕ → List Tried → Ended
-unsent bytes tried = record { command = Request bytes; result = None; tried = tried }
+abbrev pub answered : List ℕ → Response → List Tried → HostRun
+answered bytes response tried = run (Request bytes) (results.Answered response) tried
+
+abbrev pub unsent : List ℕ → List Tried → HostRun
+unsent bytes tried = run (Request bytes) results.Unsent tried
 
 -- the configuration where the device stands so
-abbrev pub configured : DeviceState → Ended
-configured d = record { command = Config; result = Some (results.Config (config_of plugged_machine d)); tried = [] }
+abbrev pub configured : DeviceState → HostRun
+configured d = run Config (results.Config (config_of plugged_machine d)) []
 
 abbrev pub isolate : ℕ → SpaceAction
 isolate b = Isolate (block_no b)
@@ -81,7 +88,7 @@ abbrev pub attempt : (back : ℕ) → List SpaceAction
 attempt back = MoveLease (frame_no 0) (page_no 0) ∷ Return 0 (frame_no back) ∷ []
 
 -- the commands did that on a machine whose device stood so
-abbrev pub Did : DeviceState → List Ended → List SpaceAction → List DeviceAction → Type 0
+abbrev pub Did : DeviceState → List HostRun → List SpaceAction → List DeviceAction → Type 0
 Did d commands actions device = AreDoneBy (by_tale plugged_machine) [] plugged_machine d commands actions device
 
 -- page 0 lies in frame 20, and somebody has it pinned

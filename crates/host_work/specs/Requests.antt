@@ -10,12 +10,11 @@ use Rattle.evac_model.specs.declared.evacuation.EvacCause.{EvacCause}
 use Rattle.evac_model.specs.declared.names.BlockNo.{BlockNo}
 use Rattle.evac_model.specs.declared.space.SpaceAction.{SpaceAction}
 use Rattle.evac_model.specs.declared.space.SpaceAction.TheVariants as space
-use Rattle.evac_model.specs.DeviceAnswer.{DeviceState, request_in}
+use Rattle.evac_model.specs.DeviceAnswer.{DeviceState, request_in, named_blocks}
 use Rattle.evac_model.specs.Geometry.{Sizes}
-use Rattle.evac_model.specs.HostCommands.{blocks_of, plugged_by}
-use Rattle.mem_device.specs.Answering.{named_blocks}
-use Rattle.resize.specs.declared.tried.Tried.{Tried}
-use Rattle.resize.specs.declared.tried.TriedResult.TheVariants as results
+use Rattle.evac_model.specs.HostCommands.{blocks_of, plugged_by, put_online}
+use Rattle.evac_model.specs.declared.tried.Tried.{Tried}
+use Rattle.evac_model.specs.declared.tried.TriedResult.TheVariants as results
 
 -- What an evacuation of a block with that end may have done to the frame space, behind what the driver had done there
 -- before. It is `by_tale` for one mover that moves page by page, by itself; other movers have other rounds, and a report says
@@ -39,9 +38,6 @@ blocks_back s d request (Ack state) = blocks_of (plugged_by s request (Ack state
 blocks_back s d request Nack = named_blocks s d.plugged request
 blocks_back s d request Busy = named_blocks s d.plugged request
 blocks_back s d request Error = named_blocks s d.plugged request
-
-abbrev pub put_online : List ℕ → List SpaceAction
-put_online blocks = map (λ b. space.Online (block_no b)) blocks
 
 -- the blocks were emptied and taken away, one after another, behind what the driver had done before
 abbrev pub AreTakenAway : Evacuates → (before : List SpaceAction) → List ℕ → List SpaceAction → Type 0

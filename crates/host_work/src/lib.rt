@@ -6,5 +6,6 @@ mod laws;
 
 pub use laws::{
     commands_of_a_small_machine, commands_that_unplug_nothing_do_as_told,
-    failed_evacuations_are_undone, requests_that_unplug_nothing_are_one_answer,
+    failed_evacuations_are_undone, plain_commands_did_as_told,
+    requests_that_unplug_nothing_are_one_answer,
 };

@@ -1,4 +1,4 @@
-use Rattle.std.proofs.Common.{◌≡◌, ◌≢◌, ℕ, Bool, true, false, List, [], ◌∷◌, ◌++◌, map, reverse, arith, Option, Some, refl, ap, ◌∙◌, subst, append-nil}
+use Rattle.std.proofs.Common.{◌≡◌, ◌≢◌, ℕ, Bool, true, false, List, [], ◌∷◌, ◌++◌, map, reverse, arith, refl, ap, ◌∙◌, subst, append-nil}
 use Rattle.evac_model.specs.declared.device.Response.TheVariants.{Ack, Busy, Error}
 use Rattle.evac_model.specs.declared.device_journal.DeviceAct.TheVariants as acts
 use Rattle.evac_model.specs.declared.device_journal.DeviceAction.{DeviceAction}
@@ -6,27 +6,27 @@ use Rattle.evac_model.specs.declared.evacuation.EvacCause.{EvacCause}
 use Rattle.evac_model.specs.declared.evacuation.EvacCause.TheVariants.{Unmovable}
 use Rattle.evac_model.specs.declared.host.HostResult.{HostResult}
 use Rattle.evac_model.specs.declared.host.HostResult.TheVariants as given
+use Rattle.evac_model.specs.declared.host.HostRun.{HostRun}
 use Rattle.evac_model.specs.declared.names.BlockNo.{BlockNo}
 use Rattle.evac_model.specs.declared.space.SpaceAction.{SpaceAction}
 use Rattle.evac_model.specs.declared.space.SpaceAction.TheVariants as space
 use Rattle.evac_model.specs.DeviceAnswer.{DeviceState}
-use Rattle.evac_model.specs.HostCommands.{request_action}
-use Rattle.resize.specs.declared.tried.Tried.{Tried}
-use Rattle.resize.specs.declared.tried.TriedResult.{TriedResult}
-use Rattle.resize.specs.declared.tried.TriedResult.TheVariants as results
-use Rattle.host_work.specs.Commands.{Ended}
+use Rattle.evac_model.specs.HostCommands.{request_action, put_online}
+use Rattle.evac_model.specs.declared.tried.Tried.{Tried}
+use Rattle.evac_model.specs.declared.tried.TriedResult.{TriedResult}
+use Rattle.evac_model.specs.declared.tried.TriedResult.TheVariants as results
 use Rattle.host_work.specs.Evacuated.{by_tale}
-use Rattle.host_work.specs.Requests.{Evacuates, block_no, AreTakenAway, WasNotSent, emptied_lines, failed_line, put_online}
+use Rattle.host_work.specs.Requests.{Evacuates, block_no, AreTakenAway, WasNotSent, emptied_lines, failed_line}
 use Rattle.host_work.specs.Examples.{plugged_machine, all_plugged, with_holes, configured, stayed, plug_3, unplug_3, unplug_all, answered, unsent, isolate, undo, offline, online, attempt, Did, pinned, pinned_in_1, no_target, busy, unmovable}
 use Rattle.host_work.proofs.Small.{empty, moved, pinned_found, pinned_in_block_1, without_target, refused, busy_in_five}
 use Rattle.host_work.proofs.Undone.{end_undone}
 use Rattle.host_work.proofs.laws.commands_of_a_small_machine.Goals as goal
 
 -- all that was done is what the one command did
-made_by_one : (d : DeviceState) (x : Ended) (actions : List SpaceAction) (device : List DeviceAction) (h : Did d (x ∷ []) actions device) → actions ≡ h.0
+made_by_one : (d : DeviceState) (x : HostRun) (actions : List SpaceAction) (device : List DeviceAction) (h : Did d (x ∷ []) actions device) → actions ≡ h.0
 made_by_one d x actions device h = h.2 ∙ (ap (λ (l : List SpaceAction). h.0 ++ l) h.7.0 ∙ append-nil h.0)
 
-sent_by_one : (d : DeviceState) (x : Ended) (actions : List SpaceAction) (device : List DeviceAction) (h : Did d (x ∷ []) actions device) → device ≡ h.3
+sent_by_one : (d : DeviceState) (x : HostRun) (actions : List SpaceAction) (device : List DeviceAction) (h : Did d (x ∷ []) actions device) → device ≡ h.3
 sent_by_one d x actions device h = h.5 ∙ (ap (λ (l : List DeviceAction). h.3 ++ l) h.7.1 ∙ append-nil h.3)
 
 -- ---- what didn't happen
@@ -81,8 +81,8 @@ not_undone first device n is =
     no_undo end.0 (block_no n.block) (is ∙ (whole ∙ end.1))
 
 -- the bytes that a configuration says are plugged
-abbrev plugged_in : Option HostResult → ℕ
-plugged_in (Some (given.Config config)) = config.plugged_size
+abbrev plugged_in : HostResult → ℕ
+plugged_in (given.Config config) = config.plugged_size
 plugged_in other = 0
 
 -- ---- the rows
@@ -293,6 +293,6 @@ returns c = record {
       ap (λ (l : List DeviceAction). map (λ (a : DeviceAction). a.act) l) (sent_by_one all_plugged (answered unplug_3 (Ack 0) (emptied_lines (3 ∷ []))) _ _ h) ∙ h.6.sent in
       absurd (cc);
   another_configuration = λ h.
-      let same : plugged_in (configured with_holes).result ≡ plugged_in (configured all_plugged).result = ap plugged_in h.6.told in
+      let same : plugged_in (configured with_holes).line.result ≡ plugged_in (configured all_plugged).line.result = ap plugged_in h.6.told in
       absurd (omega arith);
 }

@@ -1,8 +1,9 @@
 use Rattle.std.proofs.Common.{List, ◌++◌, sym, ap, ◌∙◌}
 use Rattle.evac_model.specs.declared.space.SpaceAction.{SpaceAction}
 use Rattle.evac_model.specs.DeviceAnswer.{request_in}
+use Rattle.evac_model.specs.HostCommands.{put_online}
 use Rattle.host_work.specs.Evacuated.{by_tale}
-use Rattle.host_work.specs.Requests.{blocks_back, put_online}
+use Rattle.host_work.specs.Requests.{blocks_back}
 use Rattle.host_work.proofs.Sent.{some_inside, nothing_to_empty, nothing_taken_away, nothing_tried, back_plugged, sent_alone}
 use Rattle.host_work.proofs.laws.requests_that_unplug_nothing_are_one_answer.Goals as goal
 
