@@ -6,7 +6,7 @@ use Rattle.std.proofs.lemmas.Bool.{cases_lt, cases_Bool, or_left, and_parts, and
 use Rattle.evac_model.specs.Geometry.{Sizes, first_frame, frame_count}
 use Rattle.evac_model.specs.Numbers.{is_in, is_between}
 use Rattle.evac_model.specs.SpaceJournal.{is_frame_of, is_frame_in}
-use Rattle.evac_model.proofs.Ranges.{between_inside, between_below, between_above}
+use Rattle.evac_model.proofs.Ranges.{between_inside, between_below, between_above, between_bounds}
 use Rattle.space.proofs.BlockFrames.{same_block, frame_in_witness, frame_in_from, both_true}
 use Rattle.evac_model.proofs.Members.{is_in-range_with_len}
 
@@ -27,12 +27,6 @@ between_joined a b c f low high = elim (cases_lt f b) [
   where
     lower : f < a → f < b → (is_between a b f || is_between b c f) ≡ is_between a c f
     lower below l = ap (λ (t : Bool). t || is_between b c f) (between_below a b f below) ∙ (between_below b c f l ∙ sym (between_below a c f below))
-
-between_bounds : (a c f : ℕ) → is_between a c f ≡ true → (a ≤ f) × (f < c)
-between_bounds a c f h = elim (cases_lt f a) [
-  | inl l ↦ absurd (both_ways _ (between_below a c f l) h)
-  | inr from ↦ elim (cases_lt f c) [ inl below ↦ (from, below) | inr g ↦ absurd (both_ways _ (between_above a c f g) h) ]
-]
 
 -- the blocks of a range
 pub range_bounds : (first n b : ℕ) → is_in b (range_with_len first n) ≡ true → (first ≤ b) × (b < first + n)

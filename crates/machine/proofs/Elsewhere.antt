@@ -12,7 +12,8 @@ use Rattle.evac_model.specs.declared.names.PageNo.{PageNo}
 use Rattle.evac_model.specs.declared.space.SpaceAction.TheVariants as space
 use Rattle.evac_model.specs.DeviceAnswer.{request_in}
 use Rattle.evac_model.specs.Geometry.{first_frame}
-use Rattle.evac_model.specs.HostCommands.{answer_to, plugged_by, blocks_of}
+use Rattle.evac_model.specs.DeviceJournal.{answer_to}
+use Rattle.evac_model.specs.HostCommands.{plugged_by, blocks_of}
 use Rattle.evac_model.specs.Numbers.{is_in}
 use Rattle.evac_model.specs.SpaceJournal.{Leased, out_for, lease_of}
 use Rattle.core_state.specs.declared.keeper.Keeper.TheVariants.{OneOwner}
@@ -31,7 +32,7 @@ use Rattle.machine.specs.declared.action.SpaceCall.TheVariants.{Lease, Return}
 use Rattle.machine.specs.Consistent.{IsSetting, IsConsistent}
 use Rattle.machine.specs.Made.{handed_blocks, lease_made, isolate_made, target_made, block_made, unplugged_by, request_made, made}
 use Rattle.machine.specs.MayMake.{MayLease, MayTarget, MayAskForBlock, MayMake}
-use Rattle.machine.specs.World.{Setting, World, free_seat, unplugged_seat, IsOwnerSeat, IsActorSeat, HasFrame, space_now, device_now, is_held}
+use Rattle.machine.specs.World.{Setting, World, free_seat, unplugged_seat, IsOwnerSeat, IsActorSeat, HasFrame, space_now, device_now, calls_now, is_held}
 use Rattle.machine.proofs.HandsAlone.{IsButHand, same_but_hand, HandsOver, other_stays, hand_alone, holds_behind}
 use Rattle.machine.proofs.LeasesKept.{lease_out, lease_offline}
 use Rattle.machine.proofs.NotesKept.{noted_out}
@@ -112,7 +113,7 @@ module _ (c : Setting) (w : World) (P : List View → Type 0) (seats : length w.
       (subst (λ (k : ℕ). HandsOver c P k (free_seat c)) is hands.1)
   views_cases seat (actions.Device (Request bytes)) may stepped asks driver =
       let hands = driver may.driver in
-      request_cases bytes (answer_to c.sizes (device_now c w) bytes) hands.0 hands.1
+      request_cases bytes (answer_to c.sizes (device_now c w) (calls_now c w) bytes) hands.0 hands.1
   views_cases seat (actions.Device Config) may stepped asks driver = same
   views_cases seat actions.Ended may stepped asks driver = same
 

@@ -1,13 +1,13 @@
 -- The blocks in hand around a request: those that it names are given to the device, and what comes back is taken in. The
 -- machine that has the blocks then.
-use Rattle.std.proofs.Common.{◌≡◌, ℕ, ◌+◌, ◌<◌, ◌≤◌, ◌⊎◌, Bool, true, false, not, ◌&&◌, ◌||◌, List, [], Option, Some, refl, sym, ap, subst, ◌∙◌, arith, inl, inr}
+use Rattle.std.proofs.Common.{◌≡◌, ℕ, ◌+◌, ◌<◌, ◌≤◌, ◌⊎◌, Bool, true, false, not, ◌&&◌, ◌||◌, List, [], Some, refl, sym, ap, subst, ◌∙◌, arith, inl, inr}
 use Rattle.std.specs.List.{range_with_len}
 use Rattle.std.proofs.lemmas.Bool.{false≢true, true≢false, false_from_ne_true, and_parts, and_left, and_right, or_cases}
 use Rattle.evac_model.specs.declared.device.Request.TheVariants.{UnplugAll}
 use Rattle.evac_model.specs.declared.device.Response.{Response}
 use Rattle.evac_model.specs.declared.device.Response.TheVariants.{Ack}
-use Rattle.evac_model.specs.Counts.{Calls}
 use Rattle.evac_model.specs.DeviceAnswer.{DeviceState, request_in}
+use Rattle.evac_model.specs.DeviceJournal.{backing_refuses}
 use Rattle.evac_model.specs.Geometry.{Sizes}
 use Rattle.evac_model.specs.Numbers.{is_in, united, without_range, IsRisingBelow}
 use Rattle.evac_model.proofs.Members.{is_in-range_with_len}
@@ -22,9 +22,9 @@ use Rattle.machine.specs.declared.parts.Parts.{Parts}
 use Rattle.machine.specs.Made.{request_made}
 use Rattle.machine.specs.MachineInside.{IsMachine, setting_of, world_of}
 use Rattle.machine.specs.MayMake.{MayRequest}
-use Rattle.machine.specs.World.{Setting, World, device_now}
+use Rattle.machine.specs.World.{Setting, World, device_now, calls_now}
 use Rattle.machine.proofs.BackBlocks.{back_has}
-use Rattle.machine.proofs.HeldParts.{machine_now}
+use Rattle.machine.proofs.HeldParts.{machine_now, same_sizes, same_calls}
 use Rattle.machine.proofs.NamedBlocks.{unplugged_named}
 use Rattle.machine.proofs.PlugAnswers.{same_in, all_gone, plugged_rising}
 use Rattle.machine.proofs.RequestBlocks.{plugged_managed, plugged_not_held, plugged_stays, held_managed}
@@ -100,10 +100,10 @@ module _ (a : Parts) (m : IsMachine a) (bytes sent : List ℕ) (may : MayRequest
       named_held b (ap (λ (l : List ℕ). is_in b l) (sym is) ∙ (is_in-range_with_len b first n ∙ between_inside first (first + n) b low high))
 
   -- the machine behind an answer
-  pub machine_request : (b : Parts) → setting_of b ≡ c → world_of b ≡ (request_made c w bytes answer).world → b.device.sizes ≡ a.device.sizes
+  pub machine_request : (b : Parts) → setting_of b ≡ c → world_of b ≡ (request_made c w bytes answer).world → b.device.sizes ≡ a.device.sizes → b.device.backing.calls ≡ calls_now c (request_made c w bytes answer).world
       → ((n : ℕ) → is_in n b.held.blocks ≡ ((is_in n a.held.blocks || is_in n came) && not (is_in n gone))) → b.held.room ≡ a.held.room → IsRisingBelow c.sizes.managed b.held.blocks → IsMachine b
-  machine_request b set is sizes has room rising =
-      machine_now a b (request_made c w bytes answer).world m set is (request_kept c w bytes m.set m.consistent may) sizes
+  machine_request b set is sizes calls has room rising =
+      machine_now a b (request_made c w bytes answer).world m set is (request_kept c w bytes m.set m.consistent may) sizes calls
       (λ n. has n ∙ (ap (λ (t : Bool). (t || is_in n came) && not (is_in n gone)) (m.held n) ∙ sym (held_request c w bytes m.set m.consistent may n))) room rising
 
   -- ---- a request that names a range
@@ -149,9 +149,9 @@ module _ (a : Parts) (m : IsMachine a) (bytes sent : List ℕ) (may : MayRequest
     pub given_known : (back : HandState) → back ≡ given → (b : ℕ) → is_in b back.blocks ≡ true → (is_in b came ≡ true) ⊎ (is_in b named ≡ true)
     given_known back is b there = inr (ap (λ (l : List ℕ). is_in b l) (sym (ap (λ (h : HandState). h.blocks) is ∙ (gives ∙ range))) ∙ there)
 
-    pub machine_refused : (back : HandState) → back ≡ given → (b : Parts) → setting_of b ≡ c → world_of b ≡ w → b.device.sizes ≡ a.device.sizes → b.held.blocks ≡ united left.blocks back.blocks → b.held.room ≡ a.held.room → IsMachine b
-    machine_refused back is b set world sizes takes room =
-        machine_now a b w m set world m.consistent sizes
+    pub machine_refused : (back : HandState) → back ≡ given → (b : Parts) → setting_of b ≡ c → world_of b ≡ w → b.device ≡ a.device → b.held.blocks ≡ united left.blocks back.blocks → b.held.room ≡ a.held.room → IsMachine b
+    machine_refused back is b set world unchanged takes room =
+        machine_now a b w m set world m.consistent (same_sizes a b unchanged) (same_calls a m b unchanged)
         (λ n.
         now_has back (given_known back is) b.held takes n
         ∙ (ap (λ (l : List ℕ). (is_in n a.held.blocks && not (is_in n named)) || is_in n l) (ap (λ (h : HandState). h.blocks) is ∙ (gives ∙ range))
@@ -159,15 +159,15 @@ module _ (a : Parts) (m : IsMachine a) (bytes sent : List ℕ) (may : MayRequest
         ∙ m.held n))) room (back_rising back (given_known back is) b.held takes)
 
     -- it is answered
-    module _ (told : Option Calls) (response : Response) (back : HandState) (is : IsAnswer a.device.sizes (device_state a.device) (request_in sent) 0 0 told response) (comes : IsBack (λ (h : HandState). h.blocks) a.device.sizes (request_in sent) response given back) where
+    module _ (before later : ℕ) (response : Response) (back : HandState) (is : IsAnswer a.device.sizes (device_state a.device) (request_in sent) before later (Some a.device.backing.calls) response) (comes : IsBack (λ (h : HandState). h.blocks) a.device.sizes (request_in sent) response given back) where
       comes_back : IsBack (λ (h : HandState). h.blocks) c.sizes (request_in bytes) answer given back
       comes_back =
-          subst (λ (r : Response). IsBack (λ (h : HandState). h.blocks) c.sizes (request_in bytes) r given back) (response_is a m bytes sent may same told response is)
+          subst (λ (r : Response). IsBack (λ (h : HandState). h.blocks) c.sizes (request_in bytes) r given back) (response_is a m bytes sent may same before later response is)
           (subst (λ (l : List ℕ). IsBack (λ (h : HandState). h.blocks) c.sizes (request_in l) response given back) same
           (subst (λ (s : Sizes). IsBack (λ (h : HandState). h.blocks) s (request_in sent) response given back) m.device comes))
 
       came_back : (b : ℕ) → is_in b back.blocks ≡ (is_in b came || (is_in b named && not (is_in b gone)))
-      came_back = back_has c.sizes d given back (request_in bytes) answer (gives ∙ range) refl comes_back
+      came_back = back_has c.sizes d given back (backing_refuses c.sizes d (calls_now c w) (request_in bytes)) (request_in bytes) answer (gives ∙ range) refl comes_back
 
       pub answered_known : (b : ℕ) → is_in b back.blocks ≡ true → (is_in b came ≡ true) ⊎ (is_in b named ≡ true)
       answered_known b there = elim (or_cases _ _ (sym (came_back b) ∙ there)) [
@@ -181,8 +181,8 @@ module _ (a : Parts) (m : IsMachine a) (bytes sent : List ℕ) (may : MayRequest
           ∙ (ap (λ (t : Bool). (is_in b a.held.blocks && not (is_in b named)) || t) (came_back b)
           ∙ taken_in (is_in b a.held.blocks) (is_in b named) (is_in b came) (is_in b gone) (named_held b) (unplugged_named c.sizes d.plugged (request_in bytes) answer b) (plugged_stays c w bytes m.set m.consistent may b))
 
-      pub machine_answered : (b : Parts) → setting_of b ≡ c → world_of b ≡ (request_made c w bytes answer).world → b.device.sizes ≡ a.device.sizes → b.held.blocks ≡ united left.blocks back.blocks → b.held.room ≡ a.held.room → IsMachine b
-      machine_answered b set world sizes takes room = machine_request b set world sizes (answered_has b.held takes) room (back_rising back answered_known b.held takes)
+      pub machine_answered : (b : Parts) → setting_of b ≡ c → world_of b ≡ (request_made c w bytes answer).world → b.device.sizes ≡ a.device.sizes → b.device.backing.calls ≡ calls_now c (request_made c w bytes answer).world → b.held.blocks ≡ united left.blocks back.blocks → b.held.room ≡ a.held.room → IsMachine b
+      machine_answered b set world sizes calls takes room = machine_request b set world sizes calls (answered_has b.held takes) room (back_rising back answered_known b.held takes)
 
   -- ---- an UNPLUG_ALL
 

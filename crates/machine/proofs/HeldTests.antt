@@ -7,7 +7,7 @@ use Rattle.evac_model.specs.declared.device.Request.TheVariants.{UnplugAll}
 use Rattle.evac_model.specs.DeviceAnswer.{DeviceState, device_after, device_at_start}
 use Rattle.evac_model.specs.Geometry.{Sizes}
 use Rattle.evac_model.specs.Numbers.{is_in, IsRisingBelow}
-use Rattle.mem_device.specs.Answering.{named_blocks}
+use Rattle.evac_model.specs.DeviceAnswer.{named_blocks}
 use Rattle.mem_device.specs.DeviceView.{device_state}
 use Rattle.space.proofs.BlockFrames.{is_in_bound}
 use Rattle.machine.specs.declared.parts.Parts.{Parts}

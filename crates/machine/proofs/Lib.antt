@@ -29,3 +29,5 @@ pub mod NamedBlocks
 pub mod BackBlocks
 pub mod RequestBlocks
 pub mod RequestParts
+pub mod CellsKept
+pub mod OutPages

@@ -1,6 +1,6 @@
 -- The plugged blocks that a request names, and those of them that it unplugs: none where it is no request that unplugs,
 -- each once, and none where it plugs blocks.
-use Rattle.std.proofs.Common.{◌≡◌, ℕ, ◌&&◌, Bool, true, false, if◌then◌else◌, List, [], refl, sym, subst, Option, None, Some}
+use Rattle.std.proofs.Common.{◌≡◌, ℕ, ◌&&◌, Bool, true, false, if◌then◌else◌, List, [], refl, Option, None, Some}
 use Rattle.std.specs.List.{range_with_len}
 use Rattle.std.proofs.lemmas.Bool.{false≢true}
 use Rattle.evac_model.specs.declared.device.Request.{Request}
@@ -8,13 +8,11 @@ use Rattle.evac_model.specs.declared.device.Request.TheVariants.{Plug, Unplug, U
 use Rattle.evac_model.specs.declared.device.Response.{Response}
 use Rattle.evac_model.specs.declared.device.Response.TheVariants.{Ack, Nack, Busy, Error}
 use Rattle.evac_model.specs.Geometry.{Sizes}
-use Rattle.evac_model.specs.Numbers.{is_in, IsRisingBelow}
-use Rattle.evac_model.specs.DeviceAnswer.{block_at, is_good_range, are_plugged}
+use Rattle.evac_model.specs.Numbers.{is_in, AreDistinct, IsRisingBelow}
+use Rattle.evac_model.specs.DeviceAnswer.{block_at, is_good_range, are_plugged, named_blocks}
 use Rattle.evac_model.specs.HostCommands.{unplugs, plugged_by, no_blocks}
-use Rattle.frame_cache.specs.Drains.{AreDistinct}
-use Rattle.mem_device.specs.Answering.{named_blocks}
-use Rattle.space.proofs.Members.{distinct-range_with_len, distinct-filter}
-pub use Rattle.mem_device.proofs.NamedBlocks.{named_none}
+use Rattle.evac_model.proofs.DeviceJournal.{named_none}
+use Rattle.evac_model.proofs.Distinct.{distinct-range_with_len, rising_distinct}
 use Rattle.machine.specs.Made.{unplugged_by}
 
 -- ---- none
@@ -42,9 +40,6 @@ unplugged_named s plugged request Busy b gone = absurd (false≢true gone)
 unplugged_named s plugged request Error b gone = absurd (false≢true gone)
 
 -- ---- each once
-
-rising_distinct : (m : ℕ) (xs : List ℕ) → IsRisingBelow m xs → AreDistinct xs
-rising_distinct m xs r = subst AreDistinct (sym r) (distinct-filter (λ (b : ℕ). is_in b xs) (range_with_len 0 m) (distinct-range_with_len 0 m))
 
 range_distinct : (t : Bool) (first n : ℕ) → AreDistinct (if t then range_with_len first n else [])
 range_distinct true first n = distinct-range_with_len first n

@@ -217,9 +217,9 @@ module _ (s : Sizes) where
 
 -- ---- the machine
 
-module _ (s : Sizes) (online : Kind) (start : List StartPage) (budgets : List ℕ) (r : MayStart s online start budgets) where
+module _ (s : Sizes) (online : Kind) (start : List StartPage) (budgets fails : List ℕ) (r : MayStart s online start budgets) where
   abbrev c : Setting
-  c = setting_at_start s online start budgets
+  c = setting_at_start s online start budgets fails
 
   abbrev w : World
   w = world_at_start s start budgets
@@ -313,12 +313,12 @@ module _ (s : Sizes) (online : Kind) (start : List StartPage) (budgets : List �
     in_hand = λ seat frame owner has. absurd (nowhere _ (owner_empty seat frame owner) has);
   }
 
-pub opened_set : (s : Sizes) (online : Kind) (start : List StartPage) (budgets : List ℕ) → MayStart s online start budgets → IsSetting (setting_at_start s online start budgets)
-opened_set s online start budgets r = set_at_start s online start budgets r
+pub opened_set : (s : Sizes) (online : Kind) (start : List StartPage) (budgets fails : List ℕ) → MayStart s online start budgets → IsSetting (setting_at_start s online start budgets fails)
+opened_set s online start budgets fails r = set_at_start s online start budgets fails r
 
-pub opened_consistent : (s : Sizes) (online : Kind) (start : List StartPage) (budgets : List ℕ) → MayStart s online start budgets → IsConsistent (setting_at_start s online start budgets) (world_at_start s start budgets)
-opened_consistent s online start budgets r = consistent_at_start s online start budgets r
+pub opened_consistent : (s : Sizes) (online : Kind) (start : List StartPage) (budgets fails : List ℕ) → MayStart s online start budgets → IsConsistent (setting_at_start s online start budgets fails) (world_at_start s start budgets)
+opened_consistent s online start budgets fails r = consistent_at_start s online start budgets fails r
 
 -- no block is held then
-pub opened_none : (s : Sizes) (online : Kind) (start : List StartPage) (budgets : List ℕ) (block : ℕ) → is_held (setting_at_start s online start budgets) (world_at_start s start budgets) block ≡ false
-opened_none s online start budgets block = none_plugged s block
+pub opened_none : (s : Sizes) (online : Kind) (start : List StartPage) (budgets fails : List ℕ) (block : ℕ) → is_held (setting_at_start s online start budgets fails) (world_at_start s start budgets) block ≡ false
+opened_none s online start budgets fails block = none_plugged s block

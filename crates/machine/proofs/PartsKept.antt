@@ -5,6 +5,8 @@ use Rattle.evac_model.specs.Numbers.{is_in, IsRisingBelow}
 use Rattle.core_state.specs.declared.opening.Opening.{Opening}
 use Rattle.core_state.specs.declared.snapshot.Snapshot.{Snapshot}
 use Rattle.core_state.specs.CoreState.{CoreState}
+use Rattle.dma_listeners.specs.Slates.{SlateState}
+use Rattle.mem_device.specs.DeviceView.{DeviceView}
 use Rattle.mem_device.specs.HandState.{HandState}
 use Rattle.space.specs.JournaledSpace.{JournaledSpace, with_action}
 use Rattle.machine.specs.declared.action.Heard.{Heard}
@@ -12,17 +14,21 @@ use Rattle.machine.specs.declared.parts.Parts.{Parts}
 use Rattle.machine.specs.Consistent.{IsSetting, IsConsistent}
 use Rattle.machine.specs.Made.{Made}
 use Rattle.machine.specs.MachineInside.{IsMachine, setting_of, world_of, made_of}
-use Rattle.machine.specs.World.{Setting, World, is_held}
+use Rattle.machine.specs.World.{Setting, World, calls_at, is_held}
 
 -- the parts are a machine again
-pub machine_again : (a b : Parts) (heard : Heard) (m : Made) → IsMachine a → setting_of b ≡ setting_of a → b.device.sizes ≡ a.device.sizes → b.held ≡ a.held → made_of b heard ≡ m
+pub machine_again : (a b : Parts) (heard : Heard) (m : Made) → IsMachine a → setting_of b ≡ setting_of a → b.device ≡ a.device → b.held ≡ a.held → made_of b heard ≡ m
     → IsConsistent (setting_of a) m.world → ((block : ℕ) → is_held (setting_of a) m.world block ≡ is_held (setting_of a) (world_of a) block) → IsMachine b
 machine_again a b heard m is set device hand made kept stays =
     let world : world_of b ≡ m.world = ap (λ (x : Made). x.world) made in
     record {
       set = subst (λ (c : Setting). IsSetting c) (sym set) is.set;
       consistent = subst (λ (c : Setting). IsConsistent c (world_of b)) (sym set) (subst (λ (w : World). IsConsistent (setting_of a) w) (sym world) kept);
-      device = device ∙ (is.device ∙ sym (ap (λ (c : Setting). c.sizes) set));
+      device = ap (λ (v : DeviceView SlateState HandState). v.sizes) device ∙ (is.device ∙ sym (ap (λ (c : Setting). c.sizes) set));
+      backing =
+          ap (λ (v : DeviceView SlateState HandState). v.backing.calls) device
+          ∙ (is.backing
+          ∙ sym (ap (λ (c : Setting). calls_at c b.device.journal) set ∙ ap (λ (v : DeviceView SlateState HandState). calls_at (setting_of a) v.journal) device));
       held = λ block. ap (λ (h : HandState). is_in block h.blocks) hand ∙ (is.held block ∙ (sym (stays block)
           ∙ (ap (λ (w : World). is_held (setting_of a) w block) (sym world) ∙ ap (λ (c : Setting). is_held c (world_of b) block) (sym set))));
       rising = subst (λ (h : HandState). IsRisingBelow b.space.sizes.managed h.blocks) (sym hand) (subst (λ (c : Setting). IsRisingBelow c.sizes.managed a.held.blocks) (sym set) is.rising);

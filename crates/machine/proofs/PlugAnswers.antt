@@ -11,14 +11,16 @@ use Rattle.evac_model.specs.declared.device.Response.TheVariants.{Ack, Nack, Bus
 use Rattle.evac_model.specs.declared.device_journal.DeviceAct.{DeviceAct}
 use Rattle.evac_model.specs.declared.device_journal.DeviceAct.TheVariants as acts
 use Rattle.evac_model.specs.declared.device_journal.DeviceAction.{DeviceAction}
+use Rattle.evac_model.specs.declared.device_journal.Notice.{Notice}
+use Rattle.evac_model.specs.Counts.{Calls}
 use Rattle.evac_model.specs.Geometry.{Sizes, block_bytes}
 use Rattle.evac_model.specs.Numbers.{is_in, IsRisingBelow}
-use Rattle.evac_model.specs.DeviceAnswer.{DeviceState, request_in, block_at, is_good_range, are_plugged, are_unplugged, range_state, device_answer, after_answer, after_act, device_after, device_at_start}
-use Rattle.evac_model.specs.HostCommands.{BlockRange, blocks_of, range_blocks, plugged_by, IsAnswered, AreAnswered}
+use Rattle.evac_model.specs.DeviceAnswer.{DeviceState, request_in, block_at, is_good_range, are_plugged, are_unplugged, named_blocks, range_state, device_answer, after_answer, after_act, device_after, device_at_start}
+use Rattle.evac_model.specs.DeviceJournal.{backing_refuses, calls_after_act, tells_refusal, IsAnswered, AreAnswered}
+use Rattle.evac_model.specs.HostCommands.{BlockRange, blocks_of, range_blocks, plugged_by}
 use Rattle.evac_model.proofs.Bounds.{good_within}
 use Rattle.evac_model.proofs.Members.{is_in-range_with_len}
 use Rattle.evac_model.proofs.Unions.{is_in-with_range, is_in-without_range, rising-with_range, rising-without_range, numbers-range}
-use Rattle.mem_device.specs.Answering.{named_blocks}
 use Rattle.mem_device.proofs.Answers.{none_rising}
 use Rattle.machine.specs.Consistent.{IsSetting, IsConsistent}
 use Rattle.machine.specs.Made.{unplugged_by}
@@ -96,21 +98,21 @@ module _ (s : Sizes) (d : DeviceState) where
         rising = rising-without_range first count s.managed d.plugged;
       }
 
-  pub changes : (request : Option Request) → Changes s d request (device_answer s d false request)
-  changes None = record { plugged = λ b. same_in (was b); rising = λ r. r }
-  changes (Some (Plug addr count)) =
-      by_plug (Changes s d (Some (Plug addr count))) (not (is_good_range s addr count)) (nat_lt d.requested ((length d.plugged + count) * block_bytes s)) (not (are_unplugged d.plugged (block_at s addr) count)) (d.migrating || false)
+  pub changes : (refused : Bool) (request : Option Request) → Changes s d request (device_answer s d refused request)
+  changes refused None = record { plugged = λ b. same_in (was b); rising = λ r. r }
+  changes refused (Some (Plug addr count)) =
+      by_plug (Changes s d (Some (Plug addr count))) (not (is_good_range s addr count)) (nat_lt d.requested ((length d.plugged + count) * block_bytes s)) (not (are_unplugged d.plugged (block_at s addr) count)) (d.migrating || refused)
       (record { plugged = λ b. same_in (was b); rising = λ r. r }) (record { plugged = λ b. same_in (was b); rising = λ r. r }) (record { plugged = λ b. same_in (was b); rising = λ r. r })
       (λ good. plug_acknowledged addr count (not-false _ good))
-  changes (Some (Unplug addr count)) =
-      by_unplug (Changes s d (Some (Unplug addr count))) (is_good_range s addr count) (are_plugged d.plugged (block_at s addr) count) (d.migrating || false)
+  changes refused (Some (Unplug addr count)) =
+      by_unplug (Changes s d (Some (Unplug addr count))) (is_good_range s addr count) (are_plugged d.plugged (block_at s addr) count) (d.migrating || refused)
       (record { plugged = λ b. same_in (was b); rising = λ r. r }) (record { plugged = λ b. same_in (was b); rising = λ r. r })
       (unplug_acknowledged addr count)
-  changes (Some UnplugAll) =
-      by_unplug_all (Changes s d (Some UnplugAll)) (length d.plugged == 0) (d.migrating || false)
+  changes refused (Some UnplugAll) =
+      by_unplug_all (Changes s d (Some UnplugAll)) (length d.plugged == 0) (d.migrating || refused)
       (record { plugged = λ b. same_in (was b); rising = λ r. r })
       (record { plugged = λ b. all_gone (was b); rising = λ r. none_rising s.managed })
-  changes (Some (State addr count)) =
+  changes refused (Some (State addr count)) =
       by_state (Changes s d (Some (State addr count))) (not (is_good_range s addr count)) (range_state d.plugged (block_at s addr) count)
       (record { plugged = λ b. same_in (was b); rising = λ r. r })
       (record { plugged = λ b. same_in (was b); rising = λ r. r })
@@ -118,24 +120,25 @@ module _ (s : Sizes) (d : DeviceState) where
 -- ---- a journal
 
 module _ (s : Sizes) where
-  act_rising : (d : DeviceState) (a : DeviceAct) → IsAnswered s d a → IsRisingBelow s.managed d.plugged → IsRisingBelow s.managed (after_act s d a).plugged
-  act_rising d (acts.Requested size) is r = r
-  act_rising d (acts.Request bytes response) is r =
-      subst (λ (x : Response). IsRisingBelow s.managed (after_answer s d (request_in bytes) x).plugged) (sym is) ((changes s d (request_in bytes)).rising r)
-  act_rising d (acts.Join key) is r = r
-  act_rising d acts.JoinRefused is r = r
-  act_rising d (acts.Leave key) is r = r
-  act_rising d acts.Begin is r = r
-  act_rising d acts.Cancel is r = r
-  act_rising d acts.Finish is r = r
+  act_rising : (d : DeviceState) (calls : Calls) (a : DeviceAct) (notices : List Notice) → IsAnswered s d calls a notices → IsRisingBelow s.managed d.plugged → IsRisingBelow s.managed (after_act s d a).plugged
+  act_rising d calls (acts.Requested size) notices is r = r
+  act_rising d calls (acts.Request bytes response) notices is r =
+      subst (λ (x : Response). IsRisingBelow s.managed (after_answer s d (request_in bytes) x).plugged) (sym is)
+      ((changes s d (tells_refusal notices || backing_refuses s d calls (request_in bytes)) (request_in bytes)).rising r)
+  act_rising d calls (acts.Join key) notices is r = r
+  act_rising d calls acts.JoinRefused notices is r = r
+  act_rising d calls (acts.Leave key) notices is r = r
+  act_rising d calls acts.Begin notices is r = r
+  act_rising d calls acts.Cancel notices is r = r
+  act_rising d calls acts.Finish notices is r = r
 
-  journal_rising : (d : DeviceState) (journal : List DeviceAction) → AreAnswered s d journal → IsRisingBelow s.managed d.plugged → IsRisingBelow s.managed (device_after s d journal).plugged
-  journal_rising d [] answered r = r
-  journal_rising d (a ∷ journal) answered r = journal_rising (device_after s d (a ∷ [])) journal answered.1 (act_rising d a.act answered.0 r)
+  journal_rising : (d : DeviceState) (calls : Calls) (journal : List DeviceAction) → AreAnswered s d calls journal → IsRisingBelow s.managed d.plugged → IsRisingBelow s.managed (device_after s d journal).plugged
+  journal_rising d calls [] answered r = r
+  journal_rising d calls (a ∷ journal) answered r = journal_rising (after_act s d a.act) (calls_after_act s d calls a.act) journal answered.1 (act_rising d calls a.act a.notices answered.0 r)
 
   start_rising : s.plugged ≤ s.managed → IsRisingBelow s.managed (device_at_start s).plugged
   start_rising few = sym (numbers-range (λ (b : ℕ). is_in b (range_with_len 0 s.plugged)) 0 s.plugged s.managed (omega arith) (λ b low. is_in-range_with_len b 0 s.plugged))
 
 -- the plugged blocks of a consistent world are rising
 pub plugged_rising : (c : Setting) (w : World) → IsSetting c → IsConsistent c w → IsRisingBelow c.sizes.managed (device_now c w).plugged
-plugged_rising c w set k = journal_rising c.sizes (device_at_start c.sizes) w.device k.answered (start_rising c.sizes set.limits.plugged)
+plugged_rising c w set k = journal_rising c.sizes (device_at_start c.sizes) c.backing w.device k.answered (start_rising c.sizes set.limits.plugged)

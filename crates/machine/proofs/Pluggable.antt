@@ -22,25 +22,25 @@ acknowledged true true free busy state is = absurd (cc)
 acknowledged true false false busy state is = absurd (cc)
 acknowledged true false true busy state is = refl
 
-module _ (s : Sizes) (d : DeviceState) where
-  range_plugged : (addr count state : ℕ) → plug_answer s d false addr count ≡ Ack state → (good : Bool) → is_good_range s addr count ≡ good
+module _ (s : Sizes) (d : DeviceState) (refused : Bool) where
+  range_plugged : (addr count state : ℕ) → plug_answer s d refused addr count ≡ Ack state → (good : Bool) → is_good_range s addr count ≡ good
       → 1 ≤ (if good then record { first = block_at s addr; count = count } else no_blocks).count → ArePluggable s d (if good then record { first = block_at s addr; count = count } else no_blocks)
   range_plugged addr count state is true at some = record {
     inside = good_within s addr count at;
-    unplugged = acknowledged (is_good_range s addr count) (nat_lt d.requested ((length d.plugged + count) * device_block_bytes s)) (are_unplugged d.plugged (block_at s addr) count) (d.migrating || false) state is;
+    unplugged = acknowledged (is_good_range s addr count) (nat_lt d.requested ((length d.plugged + count) * device_block_bytes s)) (are_unplugged d.plugged (block_at s addr) count) (d.migrating || refused) state is;
   }
   range_plugged addr count state is false at some = absurd (omega arith)
 
-  plug_plugged : (addr count : ℕ) (x : Response) → plug_answer s d false addr count ≡ x
+  plug_plugged : (addr count : ℕ) (x : Response) → plug_answer s d refused addr count ≡ x
       → 1 ≤ (plugged_by s (Some (Plug addr count)) x).count → ArePluggable s d (plugged_by s (Some (Plug addr count)) x)
   plug_plugged addr count (Ack state) is some = range_plugged addr count state is (is_good_range s addr count) refl some
   plug_plugged addr count Nack is some = absurd (omega arith)
   plug_plugged addr count Busy is some = absurd (omega arith)
   plug_plugged addr count Error is some = absurd (omega arith)
 
-  pub request_plugged : (request : Option Request) → 1 ≤ (plugged_by s request (device_answer s d false request)).count → ArePluggable s d (plugged_by s request (device_answer s d false request))
+  pub request_plugged : (request : Option Request) → 1 ≤ (plugged_by s request (device_answer s d refused request)).count → ArePluggable s d (plugged_by s request (device_answer s d refused request))
   request_plugged None some = absurd (omega arith)
-  request_plugged (Some (Plug addr count)) some = plug_plugged addr count (plug_answer s d false addr count) refl some
+  request_plugged (Some (Plug addr count)) some = plug_plugged addr count (plug_answer s d refused addr count) refl some
   request_plugged (Some (Unplug addr count)) some = absurd (omega arith)
   request_plugged (Some UnplugAll) some = absurd (omega arith)
   request_plugged (Some (State addr count)) some = absurd (omega arith)

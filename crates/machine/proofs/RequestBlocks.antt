@@ -6,16 +6,17 @@ use Rattle.evac_model.specs.declared.device.Request.{Request}
 use Rattle.evac_model.specs.declared.device.Response.{Response}
 use Rattle.evac_model.specs.Geometry.{Sizes}
 use Rattle.evac_model.specs.DeviceAnswer.{DeviceState, request_in, after_answer, device_at_start, unplugged_blocks}
-use Rattle.evac_model.specs.HostCommands.{BlockRange, blocks_of, answer_to, plugged_by, request_action}
+use Rattle.evac_model.specs.DeviceJournal.{backing_refuses, answer_to}
+use Rattle.evac_model.specs.HostCommands.{BlockRange, blocks_of, plugged_by, request_action}
 use Rattle.evac_model.specs.Numbers.{is_in}
+use Rattle.evac_model.proofs.DeviceJournal.{device_after-push}
 use Rattle.evac_model.proofs.Numbers.{is_in-numbers_where, is_in-numbers_where_past}
 use Rattle.evac_model.proofs.Ranges.{range-list_all}
-use Rattle.mem_device.proofs.Journals.{device_after-push}
 use Rattle.space.proofs.BlockFrames.{is_in_bound}
 use Rattle.machine.specs.Consistent.{IsSetting, IsConsistent}
 use Rattle.machine.specs.Made.{unplugged_by, request_made}
 use Rattle.machine.specs.MayMake.{MayRequest}
-use Rattle.machine.specs.World.{Setting, World, space_now, device_now, unplugged_now, is_held}
+use Rattle.machine.specs.World.{Setting, World, space_now, device_now, calls_now, unplugged_now, is_held}
 use Rattle.machine.proofs.BlockFrames.{range_bounds}
 use Rattle.machine.proofs.NamedBlocks.{unplugged_named}
 use Rattle.machine.proofs.PlugAnswers.{changes, plugged_rising}
@@ -75,8 +76,12 @@ module _ (c : Setting) (w : World) (bytes : List ℕ) (set : IsSetting c) (k : I
   abbrev request : Option Request
   request = request_in bytes
 
+  -- whether its backing refuses it
+  abbrev refused : Bool
+  refused = backing_refuses c.sizes d (calls_now c w) request
+
   abbrev response : Response
-  response = answer_to c.sizes d bytes
+  response = answer_to c.sizes d (calls_now c w) bytes
 
   abbrev range : BlockRange
   range = plugged_by c.sizes request response
@@ -94,7 +99,7 @@ module _ (c : Setting) (w : World) (bytes : List ℕ) (set : IsSetting c) (k : I
   -- ---- those plugged
 
   pluggable : 1 ≤ range.count → ArePluggable c.sizes d range
-  pluggable some = request_plugged c.sizes d request some
+  pluggable some = request_plugged c.sizes d refused request some
 
   module _ (b : ℕ) (its : is_in b came ≡ true) where
     bounds : (range.first ≤ b) × (b < range.first + range.count)
@@ -140,7 +145,7 @@ module _ (c : Setting) (w : World) (bytes : List ℕ) (set : IsSetting c) (k : I
   device_then = device_after-push c.sizes (device_at_start c.sizes) w.device (request_action bytes response)
 
   plugged_then : (b : ℕ) → is_in b (device_now c after).plugged ≡ ((is_in b d.plugged || is_in b came) && not (is_in b gone))
-  plugged_then b = ap (λ (x : DeviceState). is_in b x.plugged) device_then ∙ (changes c.sizes d request).plugged b
+  plugged_then b = ap (λ (x : DeviceState). is_in b x.plugged) device_then ∙ (changes c.sizes d refused request).plugged b
 
   pub unplugged_then : (b : ℕ) → is_in b (unplugged_now c after) ≡ ((is_in b (unplugged_now c w) && not (is_in b came)) || is_in b gone)
   unplugged_then = unplugged_changed c.sizes d.plugged (device_now c after).plugged came gone plugged_then unplugged_managed

@@ -1,27 +1,33 @@
 -- A request to the device of a machine: the response, the blocks that were found, the hand-overs of their frames, and the
 -- world behind.
-use Rattle.std.proofs.Common.{◌≡◌, ℕ, ◌+◌, false, List, [], ◌∷◌, ◌++◌, length, Option, Some, refl, sym, ap, ◌∙◌}
+use Rattle.std.proofs.Common.{◌≡◌, ℕ, ◌+◌, Bool, true, false, if◌then◌else◌, List, [], ◌∷◌, ◌++◌, length, Option, Some, refl, sym, ap, subst, ◌∙◌}
+use Rattle.std.proofs.lemmas.Option.{same_Some}
 use Rattle.std.specs.List.{range_with_len}
 use Rattle.evac_model.specs.declared.device.Request.{Request}
 use Rattle.evac_model.specs.declared.device.Request.TheVariants.{UnplugAll}
 use Rattle.evac_model.specs.declared.device.Response.{Response}
 use Rattle.evac_model.specs.declared.device.Response.TheVariants.{Ack, Nack, Busy, Error}
-use Rattle.evac_model.specs.Counts.{Calls}
-use Rattle.evac_model.specs.DeviceAnswer.{DeviceState, request_in, device_answer}
+use Rattle.evac_model.specs.Counts.{Calls, after_call}
+use Rattle.evac_model.specs.DeviceAnswer.{DeviceState, request_in, named_blocks, asks_backing, device_at_start}
+use Rattle.evac_model.specs.DeviceJournal.{answer_to}
 use Rattle.evac_model.specs.Geometry.{Sizes}
-use Rattle.evac_model.specs.HostCommands.{BlockRange, answer_to, request_action, plugged_by, blocks_of, unplugs}
+use Rattle.evac_model.specs.HostCommands.{BlockRange, request_action, plugged_by, blocks_of, unplugs}
+use Rattle.evac_model.proofs.DeviceJournal.{calls_after-push}
 use Rattle.core_state.specs.declared.opening.Opening.{Opening}
 use Rattle.core_state.specs.declared.snapshot.Snapshot.{Snapshot}
-use Rattle.mem_device.specs.Answering.{IsAnswer, named_blocks}
+use Rattle.dma_listeners.specs.Slates.{SlateState}
+use Rattle.mem_device.specs.Answering.{IsAnswer, IsAsked}
 use Rattle.mem_device.specs.DeviceView.{device_state}
+use Rattle.machine.specs.declared.action.DeviceHeard.TheVariants as device
+use Rattle.machine.specs.declared.action.Heard.TheVariants.{Device}
 use Rattle.machine.specs.declared.parts.Parts.{Parts}
 use Rattle.machine.specs.BlocksInHand.{MayHandBlocks}
 use Rattle.machine.specs.Made.{handed_blocks, unplugged_by, request_made}
-use Rattle.machine.specs.MachineInside.{IsMachine, setting_of, world_of}
+use Rattle.machine.specs.MachineInside.{IsMachine, none_made, setting_of, world_of, made_of}
 use Rattle.machine.specs.MayMake.{MayRequest}
-use Rattle.machine.specs.World.{Setting, World, unplugged_seat, device_at, device_now}
-use Rattle.machine.proofs.BackBlocks.{sure_answer}
-use Rattle.machine.proofs.HeldParts.{same_world}
+use Rattle.machine.specs.World.{Setting, World, unplugged_seat, device_at, device_now, calls_now}
+use Rattle.machine.proofs.BackBlocks.{told_answer}
+use Rattle.machine.proofs.HeldParts.{as_made, same_world}
 use Rattle.machine.proofs.NamedBlocks.{plugged_none}
 use Rattle.machine.proofs.RequestsKept.{plugged_may, plugged_kept, unplugged_may}
 
@@ -29,10 +35,26 @@ use Rattle.machine.proofs.RequestsKept.{plugged_may, plugged_kept, unplugged_may
 hands_again : (s t : Sizes) (o p : Opening) (x y : Snapshot) (from to : ℕ) (blocks found : List ℕ) → t ≡ s → p ≡ o → y ≡ x → found ≡ blocks → MayHandBlocks s o x.views from to blocks → MayHandBlocks t p y.views from to found
 hands_again s t o p x y from to blocks found sizes opening snapshot same may = rw (sizes, opening, snapshot, same) may
 
+-- ---- the calls of a backing
+
+-- what a slate tells
+abbrev pub told_by : SlateState → Option Calls
+told_by slate = Some slate.calls
+
+-- one more, where it was asked
+asked_calls : (asked : Bool) (before after : SlateState) → IsAsked told_by asked before after → after.calls ≡ (if asked then after_call before.calls else before.calls)
+asked_calls true before after is = same_Some after.calls (after_call before.calls) is
+asked_calls false before after is = ap (λ (x : SlateState). x.calls) is
+
+-- the calls that fail are the same
+pub asked_none : (asked : Bool) (before after : SlateState) → IsAsked told_by asked before after → none_made after.calls ≡ none_made before.calls
+asked_none true before after is = ap none_made (asked_calls true before after is)
+asked_none false before after is = ap none_made (asked_calls false before after is)
+
 -- ---- a request
 
 abbrev pub answer_of : Parts → (bytes : List ℕ) → Response
-answer_of a bytes = answer_to a.space.sizes (device_now (setting_of a) (world_of a)) bytes
+answer_of a bytes = answer_to a.space.sizes (device_now (setting_of a) (world_of a)) (calls_now (setting_of a) (world_of a)) bytes
 
 -- the blocks that it plugs, that it names, and that it unplugs
 abbrev pub came_of : Parts → (bytes : List ℕ) → List ℕ
@@ -78,11 +100,12 @@ module _ (a : Parts) (m : IsMachine a) (bytes sent : List ℕ) (may : MayRequest
 
   -- ---- what the device answers, and what is found
 
-  pub response_is : (told : Option Calls) (response : Response) → IsAnswer a.device.sizes (device_state a.device) (request_in sent) 0 0 told response → response ≡ answer
-  response_is told response is =
-      sure_answer a.device.sizes (device_state a.device) (request_in sent) told response is
-      ∙ (ap (λ (s : Sizes). device_answer s (device_at s a.device.journal) false (request_in sent)) m.device
-      ∙ ap (λ (l : List ℕ). answer_to c.sizes d l) same)
+  pub response_is : (before later : ℕ) (response : Response) → IsAnswer a.device.sizes (device_state a.device) (request_in sent) before later (Some a.device.backing.calls) response → response ≡ answer
+  response_is before later response is =
+      told_answer a.device.sizes (device_state a.device) (request_in sent) before later a.device.backing.calls response is
+      ∙ (ap (λ (s : Sizes). answer_to s (device_at s a.device.journal) a.device.backing.calls sent) m.device
+      ∙ (ap (λ (k : Calls). answer_to c.sizes d k sent) m.backing
+      ∙ ap (λ (l : List ℕ). answer_to c.sizes d (calls_now c w) l) same))
 
   pub named_is : named_blocks a.device.sizes (device_state a.device).plugged (request_in sent) ≡ named
   named_is =
@@ -153,6 +176,39 @@ module _ (a : Parts) (m : IsMachine a) (bytes sent : List ℕ) (may : MayRequest
       (actions
       ∙ (ap (λ (l : List ℕ). a.device.journal ++ request_action l response ∷ []) same
       ∙ ap (λ (r : Response). a.device.journal ++ request_action bytes r ∷ []) answered))
+
+  -- and what is heard
+  pub made_request : (b : Parts) (response : Response) → response ≡ answer → world_of b ≡ (request_made c w bytes answer).world → made_of b (Device (device.Answered response)) ≡ request_made c w bytes answer
+  made_request b response answered world = λ i. as_made (world i) (Device (device.Answered (answered i)))
+
+  -- ---- the calls of the backing then
+
+  abbrev asked : Bool
+  asked = asks_backing c.sizes d (request_in bytes)
+
+  module _ (after : SlateState) (is : IsAsked told_by (asks_backing a.device.sizes (device_state a.device) (request_in sent)) a.device.backing after) where
+    asked_is : IsAsked told_by asked a.device.backing after
+    asked_is =
+        subst (λ (l : List ℕ). IsAsked told_by (asks_backing c.sizes d (request_in l)) a.device.backing after) same
+        (subst (λ (s : Sizes). IsAsked told_by (asks_backing s (device_at s a.device.journal) (request_in sent)) a.device.backing after) m.device is)
+
+    -- they are those of the journal with the request
+    pub calls_request : after.calls ≡ calls_now c (request_made c w bytes answer).world
+    calls_request =
+        asked_calls asked a.device.backing after asked_is
+        ∙ (ap (λ (k : Calls). if asked then after_call k else k) m.backing
+        ∙ sym (calls_after-push c.sizes (device_at_start c.sizes) c.backing w.device (request_action bytes answer)))
+
+    -- those that fail are the same
+    pub fails_request : none_made after.calls ≡ c.backing
+    fails_request = asked_none asked a.device.backing after asked_is
+
+    -- the parts have the setting again
+    pub setting_request : (b : Parts) (o : Opening) → o ≡ a.core.opening → setting_of b ≡ record c { opening = o; backing = none_made after.calls } → setting_of b ≡ c
+    setting_request b o opening set =
+        set
+        ∙ (ap (λ (x : Opening). record c { opening = x; backing = none_made after.calls }) opening
+        ∙ ap (λ (k : Calls). record c { backing = k }) fails_request)
 
   -- ---- an UNPLUG_ALL
 

@@ -1,28 +1,29 @@
 -- A request: the frames of the blocks that it plugs go from the hand of who keeps the unplugged ones to the driver's, and
 -- those of the blocks that it unplugs go back.
-use Rattle.std.proofs.Common.{◌≡◌, ◌≢◌, ◌↔◌, ℕ, ◌<◌, Bool, true, false, not, ◌&&◌, ◌||◌, List, [], ◌∷◌, ◌++◌, length, filter, refl, sym, ap, ◌∙◌, subst, arith, inl, inr, None, Some, IsSome, Option}
+use Rattle.std.proofs.Common.{◌≡◌, ◌≢◌, ◌↔◌, ℕ, ◌<◌, Bool, true, false, not, ◌&&◌, ◌||◌, List, [], ◌∷◌, length, filter, refl, sym, ap, ◌∙◌, subst, arith, inl, inr, None, Some, IsSome, Option}
 use Rattle.std.proofs.lemmas.Bool.{both_ways, and_from, and_parts, not-true, not_from_false, false_from_ne_true, or_cases, or_left, or_right}
 use Rattle.evac_model.specs.declared.device.Request.{Request}
 use Rattle.evac_model.specs.declared.device.Response.{Response}
-use Rattle.evac_model.specs.declared.device_journal.DeviceAction.{DeviceAction}
 use Rattle.evac_model.specs.Geometry.{Sizes, frame_count}
-use Rattle.evac_model.specs.DeviceAnswer.{DeviceState, request_in, device_after, device_at_start}
-use Rattle.evac_model.specs.HostCommands.{BlockRange, blocks_of, answer_to, plugged_by, request_action, AreAnswered}
+use Rattle.evac_model.specs.DeviceAnswer.{DeviceState, request_in, device_at_start}
+use Rattle.evac_model.specs.DeviceJournal.{answer_to}
+use Rattle.evac_model.specs.HostCommands.{BlockRange, blocks_of, plugged_by, request_action}
 use Rattle.evac_model.specs.Numbers.{is_in}
 use Rattle.evac_model.specs.SpaceJournal.{out_for, is_frame_of, is_frame_in}
 use Rattle.evac_words.specs.Word.{mapped_bit, frame_of}
+use Rattle.evac_model.proofs.DeviceJournal.{answered_more}
+use Rattle.evac_model.proofs.Distinct.{distinct-range_with_len}
 use Rattle.evac_model.proofs.Members.{is_in-filter}
 use Rattle.core_state.specs.declared.snapshot.Snapshot.{Snapshot}
 use Rattle.core_state.specs.declared.view.View.{View}
 use Rattle.core_state.specs.Views.{view_of, hand_frame}
 use Rattle.core_state.specs.Words.{entry_word_of, kind_in}
 use Rattle.space.proofs.BlockFrames.{both_true, same_block, frame_below, frame_in_witness, frame_in_from}
-use Rattle.space.proofs.Members.{distinct-range_with_len}
 use Rattle.machine.specs.BlocksInHand.{MayHandBlocks}
 use Rattle.machine.specs.Consistent.{IsSetting, IsConsistent}
 use Rattle.machine.specs.Made.{handed_blocks, unplugged_by, request_made}
 use Rattle.machine.specs.MayMake.{MayRequest}
-use Rattle.machine.specs.World.{Setting, World, scanner_seat, free_seat, unplugged_seat, HasFrame, space_now, device_now, unplugged_now, is_held}
+use Rattle.machine.specs.World.{Setting, World, scanner_seat, free_seat, unplugged_seat, HasFrame, space_now, device_now, calls_now, unplugged_now, is_held}
 use Rattle.machine.proofs.BlockFrames.{blocks_below, frame_in-without}
 use Rattle.machine.proofs.HandedBlocks.{list_handed, list_kept, list_rests}
 use Rattle.machine.proofs.HandedFrames.{AreHanded, has_frame, IsSnapshotKept, same_kept}
@@ -68,12 +69,6 @@ frame_there s block f low its =
     let below = blocks_below s block 1 (omega arith) in
     omega arith
 
--- ---- the device's journal
-
-answered_more : (s : Sizes) (d : DeviceState) (journal more : List DeviceAction) → AreAnswered s d journal → AreAnswered s (device_after s d journal) more → AreAnswered s d (journal ++ more)
-answered_more s d [] more h g = g
-answered_more s d (a ∷ journal) more h g = (h.0, answered_more s (device_after s d (a ∷ [])) journal more h.1 g)
-
 -- ---- a request
 
 module _ (c : Setting) (w : World) (bytes : List ℕ) (set : IsSetting c) (k : IsConsistent c w) (may : MayRequest c 0 w bytes) where
@@ -87,7 +82,7 @@ module _ (c : Setting) (w : World) (bytes : List ℕ) (set : IsSetting c) (k : I
   request = request_in bytes
 
   abbrev response : Response
-  response = answer_to c.sizes d bytes
+  response = answer_to c.sizes d (calls_now c w) bytes
 
   abbrev range : BlockRange
   range = plugged_by c.sizes request response
@@ -196,7 +191,7 @@ module _ (c : Setting) (w : World) (bytes : List ℕ) (set : IsSetting c) (k : I
     keeper_rests = kept.keeper_rests;
     unplugged_rests = kept.unplugged_rests;
     possible = k.possible;
-    answered = answered_more c.sizes (device_at_start c.sizes) w.device (request_action bytes response ∷ []) k.answered (refl, tt);
+    answered = answered_more c.sizes (device_at_start c.sizes) c.backing w.device (request_action bytes response ∷ []) k.answered (refl, tt);
     free = λ f low. subst (λ (v : View). IsSome (hand_frame v f) ↔ ((out_for (space_now c w) f ≡ None) × (is_frame_in c.sizes (space_now c w).offline f ≡ false)))
         (sym (request_others (free_seat c) (λ e. omega arith) (λ e. omega arith))) (k.free f low);
     unplugged = λ f low. let same = keeper_has f low in ((λ h. sym same ∙ h), (λ h. same ∙ h));

@@ -210,6 +210,7 @@ machine_with a core same k kept = record {
   set = subst (λ (o : Opening). IsSetting (record (setting_of a) { opening = o })) (sym same) k.set;
   consistent = subst (λ (o : Opening). IsConsistent (record (setting_of a) { opening = o }) (record (world_of a) { snapshot = core.snapshot })) (sym same) kept;
   device = k.device;
+  backing = k.backing;
   held = k.held;
   rising = k.rising;
   room = k.room;

@@ -16,7 +16,7 @@ use Rattle.machine.specs.Consistent.{IsSetting, IsConsistent}
 use Rattle.machine.specs.Made.{target_made}
 use Rattle.machine.specs.MayMake.{MayTarget}
 use Rattle.machine.specs.World.{Setting, World, free_seat, space_at, space_now, is_held}
-use Rattle.machine.proofs.TakenFrames.{IsTaking, taken_hands, taken_out, taken_offline, taken_kept, taken_held}
+use Rattle.machine.proofs.TakenFrames.{IsTaking, taken_hands, taken_here, taken_out, taken_offline, taken_kept, taken_held}
 
 module _ (c : Setting) (w : World) (block : BlockNo) (after : Option FrameNo) (at : FrameNo × PageNo) (l : Leased) (set : IsSetting c) (kept : IsConsistent c w) (may : MayTarget c 0 w block)
     (next : next_out c.sizes (space_now c w) block.0 after ≡ Some at) (e : lease_of c.sizes c.online (space_now c w) 0 Movable ≡ Some l) where
@@ -42,6 +42,10 @@ module _ (c : Setting) (w : World) (block : BlockNo) (after : Option FrameNo) (a
 
   pub target_hands : MayHandOver c.opening (view_of w.snapshot.views (free_seat c)) (view_of w.snapshot.views 0) l.frame 1
   target_hands = taken_hands c w 0 l entry set kept taking
+
+  pub target_here : out_for then l.frame ≡ Some (record { page = (at.1).0; kind = Movable })
+  unfolding taking
+  target_here = taken_here c w 0 l entry set kept taking
 
   pub target_out : (f : ℕ) → f ≢ l.frame → out_for then f ≡ out_for st f
   target_out = taken_out c w 0 l entry set kept taking

@@ -1,9 +1,8 @@
 -- Blocks whose frames may change hands.
 use Rattle.std.specs.Prelude.{◌≡◌, ℕ, ◌<◌, ◌≤◌, true, List, IsSome}
 use Rattle.evac_model.specs.Geometry.{Sizes, frame_count}
-use Rattle.evac_model.specs.Numbers.{is_in}
+use Rattle.evac_model.specs.Numbers.{is_in, AreDistinct}
 use Rattle.evac_model.specs.SpaceJournal.{is_frame_in}
-use Rattle.frame_cache.specs.Drains.{AreDistinct}
 use Rattle.core_state.specs.declared.opening.Opening.{Opening}
 use Rattle.core_state.specs.declared.view.View.{View}
 use Rattle.core_state.specs.HandOvers.{IsAtRest}

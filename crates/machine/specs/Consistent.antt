@@ -2,7 +2,7 @@
 use Rattle.std.specs.Prelude.{◌≡◌, ◌≢◌, ◌↔◌, ℕ, suc, ◌+◌, ◌<◌, ◌≤◌, ◌||◌, true, false, List, [], length, Some, None}
 use Rattle.evac_model.specs.DeviceAnswer.{device_at_start}
 use Rattle.evac_model.specs.Geometry.{IsWithinLimits, frame_count}
-use Rattle.evac_model.specs.HostCommands.{AreAnswered}
+use Rattle.evac_model.specs.DeviceJournal.{AreAnswered}
 use Rattle.evac_model.specs.Numbers.{is_in}
 use Rattle.evac_model.specs.SpaceJournal.{out_for, is_frame_of, is_frame_in, IsPossibleJournal}
 use Rattle.evac_words.specs.Word.{mapped_bit, frame_of}
@@ -39,7 +39,7 @@ pub record IsConsistent (c : Setting) (w : World) : Type 0 where
   pub keeper_rests : IsAtRest c.opening (view_of w.snapshot.views (free_seat c))
   pub unplugged_rests : IsAtRest c.opening (view_of w.snapshot.views (unplugged_seat c))
   pub possible : IsPossibleJournal c.sizes c.online c.space w.space
-  pub answered : AreAnswered c.sizes (device_at_start c.sizes) w.device
+  pub answered : AreAnswered c.sizes (device_at_start c.sizes) c.backing w.device
   pub free : (frame : ℕ) → frame < frame_count c.sizes → HasFrame w (free_seat c) frame ↔ ((out_for (space_now c w) frame ≡ None) × (is_frame_in c.sizes (space_now c w).offline frame ≡ false))
   pub unplugged : (frame : ℕ) → frame < frame_count c.sizes → HasFrame w (unplugged_seat c) frame ↔ (is_frame_in c.sizes (unplugged_now c w) frame ≡ true)
   pub driver : (block frame : ℕ) → is_held c w block ≡ true → is_frame_of c.sizes block frame ≡ true → HasFrame w 0 frame

@@ -1,6 +1,8 @@
 pub mod World
 pub mod Made
 pub mod Consistent
+pub mod CellNumbers
+pub mod OutPages
 pub mod MayMake
 pub mod Start
 pub mod BlocksInHand

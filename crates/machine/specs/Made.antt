@@ -10,9 +10,10 @@ use Rattle.evac_model.specs.declared.names.Kind.TheVariants.{Movable}
 use Rattle.evac_model.specs.declared.names.PageNo.{PageNo}
 use Rattle.evac_model.specs.declared.space.SpaceAction.{SpaceAction}
 use Rattle.evac_model.specs.declared.space.SpaceAction.TheVariants as space
-use Rattle.evac_model.specs.DeviceAnswer.{request_in, config_of}
+use Rattle.evac_model.specs.DeviceAnswer.{request_in, config_of, named_blocks}
 use Rattle.evac_model.specs.Geometry.{Sizes, first_frame}
-use Rattle.evac_model.specs.HostCommands.{answer_to, request_action, plugged_by, blocks_of}
+use Rattle.evac_model.specs.DeviceJournal.{answer_to}
+use Rattle.evac_model.specs.HostCommands.{request_action, plugged_by, blocks_of}
 use Rattle.evac_model.specs.SpaceJournal.{Leased, lease_of}
 use Rattle.core_state.specs.declared.keeper.Keeper.TheVariants.{OneOwner}
 use Rattle.core_state.specs.declared.snapshot.Snapshot.{Snapshot}
@@ -22,7 +23,6 @@ use Rattle.core_state.specs.declared.step.Step.TheVariants.{Take, Draw, Load, St
 use Rattle.core_state.specs.HandOvers.{views_after_hand_over}
 use Rattle.core_state.specs.Stepped.{word_found, snapshot_after, snapshot_after_move}
 use Rattle.core_state.specs.Views.{view_of}
-use Rattle.mem_device.specs.Answering.{named_blocks}
 use Rattle.space.specs.Refusals.{first_unmovable, next_out}
 use Rattle.machine.specs.declared.action.Action.{Action}
 use Rattle.machine.specs.declared.action.Action.TheVariants as actions
@@ -37,7 +37,7 @@ use Rattle.machine.specs.declared.action.Heard.TheVariants.{Start, Word, Nothing
 use Rattle.machine.specs.declared.action.Heard.TheVariants as heards
 use Rattle.machine.specs.declared.action.SpaceCall.{SpaceCall}
 use Rattle.machine.specs.declared.action.SpaceCall.TheVariants.{Lease, Return}
-use Rattle.machine.specs.World.{Setting, World, free_seat, unplugged_seat, space_now, device_now}
+use Rattle.machine.specs.World.{Setting, World, free_seat, unplugged_seat, space_now, device_now, calls_now}
 
 -- the world behind an action, and what its actor hears
 pub record Made : Type 0 where
@@ -181,7 +181,7 @@ request_made c w bytes response = record {
 
 -- the device answers a request, or tells its configuration
 abbrev pub device_made : Setting → World → DeviceCall → Made
-device_made c w (calls.Request bytes) = request_made c w bytes (answer_to c.sizes (device_now c w) bytes)
+device_made c w (calls.Request bytes) = request_made c w bytes (answer_to c.sizes (device_now c w) (calls_now c w) bytes)
 device_made c w calls.Config = record { world = w; heard = Device (device.Config (config_of c.sizes (device_now c w))) }
 
 -- ---- any action

@@ -3,7 +3,7 @@ use Rattle.std.specs.Prelude.{◌≡◌, ◌≢◌, ℕ, ◌<◌, ◌≤◌, tru
 use Rattle.evac_model.specs.declared.names.BlockNo.{BlockNo}
 use Rattle.evac_model.specs.declared.names.FrameNo.{FrameNo}
 use Rattle.evac_model.specs.declared.names.PageNo.{PageNo}
-use Rattle.evac_model.specs.DeviceAnswer.{request_in}
+use Rattle.evac_model.specs.DeviceAnswer.{request_in, named_blocks}
 use Rattle.evac_model.specs.Numbers.{is_in}
 use Rattle.evac_model.specs.SpaceJournal.{out_for, IsEmptied}
 use Rattle.core_state.specs.declared.keeper.Keeper.TheVariants.{OneOwner}
@@ -17,7 +17,6 @@ use Rattle.core_state.specs.MoveSteps.{AllowedMove}
 use Rattle.core_state.specs.Steps.{held_page, held_word, Allowed}
 use Rattle.core_state.specs.Views.{view_of}
 use Rattle.core_state.specs.Words.{kind_in}
-use Rattle.mem_device.specs.Answering.{named_blocks}
 use Rattle.machine.specs.declared.action.Action.{Action}
 use Rattle.machine.specs.declared.action.Action.TheVariants as actions
 use Rattle.machine.specs.declared.action.BlockCall.{BlockCall}

@@ -3,6 +3,7 @@ use Rattle.std.specs.Prelude.{◌≡◌, ℕ, ◌≤◌, ◌<◌, ◌^◌, true,
 use Rattle.std.specs.List.{AllByRecursion}
 use Rattle.evac_model.specs.declared.names.Kind.{Kind}
 use Rattle.evac_model.specs.declared.scenario.StartPage.{StartPage}
+use Rattle.evac_model.specs.Counts.{first_of_calls}
 use Rattle.evac_model.specs.FreeRuns.{fits}
 use Rattle.evac_model.specs.Geometry.{Sizes, IsWithinLimits}
 use Rattle.evac_model.specs.SpaceJournal.{space_at_start}
@@ -11,10 +12,10 @@ use Rattle.core_state.specs.CoreOpens.{opening_of, opening_words, opening_views}
 use Rattle.machine.specs.World.{Setting, World}
 
 -- The machine of these sizes, whose managed blocks are online for pages of a kind, with these pages at the start, and so
--- many calls for each owner.
-abbrev pub setting_at_start : Sizes → (online : Kind) → List StartPage → (budgets : List ℕ) → Setting
-setting_at_start s online start budgets =
-    record { opening = opening_of s start budgets; sizes = s; online = online; space = space_at_start s start; owners = length budgets }
+-- many calls for each owner. The calls of the device's backing with these numbers fail.
+abbrev pub setting_at_start : Sizes → (online : Kind) → List StartPage → (budgets fails : List ℕ) → Setting
+setting_at_start s online start budgets fails =
+    record { opening = opening_of s start budgets; sizes = s; online = online; space = space_at_start s start; owners = length budgets; backing = first_of_calls fails }
 
 abbrev pub world_at_start : Sizes → List StartPage → (budgets : List ℕ) → World
 world_at_start s start budgets =

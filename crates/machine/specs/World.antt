@@ -3,7 +3,9 @@ use Rattle.std.specs.Prelude.{ℕ, ◌+◌, ◌≤◌, ◌&&◌, Bool, List, IsS
 use Rattle.evac_model.specs.declared.device_journal.DeviceAction.{DeviceAction}
 use Rattle.evac_model.specs.declared.names.Kind.{Kind}
 use Rattle.evac_model.specs.declared.space.SpaceAction.{SpaceAction}
+use Rattle.evac_model.specs.Counts.{Calls}
 use Rattle.evac_model.specs.DeviceAnswer.{DeviceState, device_after, device_at_start, unplugged_blocks}
+use Rattle.evac_model.specs.DeviceJournal.{calls_after}
 use Rattle.evac_model.specs.Geometry.{Sizes}
 use Rattle.evac_model.specs.Numbers.{is_in}
 use Rattle.evac_model.specs.SpaceJournal.{SpaceState, space_after}
@@ -12,13 +14,14 @@ use Rattle.core_state.specs.declared.snapshot.Snapshot.{Snapshot}
 use Rattle.core_state.specs.Views.{view_of, hand_frame}
 
 -- What a run begins with: the words and the views, the sizes of the machine, the kind of pages that managed blocks are
--- online for, the frame space, and how many owners there are.
+-- online for, the frame space, how many owners there are, and the calls of the device's backing, before the first one.
 pub record Setting : Type 0 where
   pub opening : Opening
   pub sizes : Sizes
   pub online : Kind
   pub space : SpaceState
   pub owners : ℕ
+  pub backing : Calls
 
 -- What actions change: the words and the views, the actions of the frame space, and those of the memory device.
 pub record World : Type 0 where
@@ -70,6 +73,13 @@ device_at s journal = device_after s (device_at_start s) journal
 
 abbrev pub device_now : Setting → World → DeviceState
 device_now c w = device_at c.sizes w.device
+
+-- the calls of the device's backing behind a journal, and as they stand
+abbrev pub calls_at : Setting → List DeviceAction → Calls
+calls_at c journal = calls_after c.sizes (device_at_start c.sizes) c.backing journal
+
+abbrev pub calls_now : Setting → World → Calls
+calls_now c w = calls_at c w.device
 
 -- the blocks that aren't plugged
 abbrev pub unplugged_now : Setting → World → List ℕ

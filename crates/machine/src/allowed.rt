@@ -1,7 +1,7 @@
 //! Whether a seat may make an action, by the machine as it stands.
 
 ghost use Rattle.std.specs.List.{range_with_len};
-ghost use Rattle.mem_device.specs.Answering.{named_blocks};
+ghost use Rattle.evac_model.specs.DeviceAnswer.{named_blocks};
 ghost use Rattle.std.specs.Prelude.{◌≡◌, ◌≢◌, ◌↔◌, ℕ, ◌+◌, ◌<◌, ◌≤◌, true, IsTrue, None, Some, length};
 ghost use Rattle.evac_model.specs.DeviceAnswer.{request_in};
 ghost use Rattle.evac_model.specs.Numbers.{is_in};

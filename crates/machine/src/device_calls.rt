@@ -6,12 +6,12 @@ ghost use Rattle.core_state.specs.CoreState.{IsSound};
 ghost use Rattle.core_state.specs.Views.{view_of};
 ghost use Rattle.evac_model.specs.declared.device.Request.{Request};
 ghost use Rattle.evac_model.specs.DeviceAnswer.{request_in};
-ghost use Rattle.evac_model.specs.HostCommands.{answer_to};
+ghost use Rattle.evac_model.specs.DeviceJournal.{answer_to};
 ghost use Rattle.machine.specs.BlocksInHand.{MayHandBlocks};
 ghost use Rattle.machine.specs.Made.{handed_blocks, request_made};
 ghost use Rattle.machine.specs.MachineInside.{IsMachine, setting_of, world_of, state_of, made_of};
 ghost use Rattle.machine.specs.MayMake.{MayRequest};
-ghost use Rattle.machine.specs.World.{device_now};
+ghost use Rattle.machine.specs.World.{device_now, calls_now};
 
 use crate::action::{DeviceHeard, Heard};
 use crate::parts::Parts;
@@ -93,7 +93,7 @@ fn exchange(parts: &mut Parts, bytes: &RequestBytes) -> Result<Heard, OutOfMemor
     requires may { MayRequest (setting_of parts.old) 0 (world_of parts.old) bytes.now }
     requires other { request_in bytes.now ≢ Some Request.UnplugAll }
     ensures made { IfOk result (λ heard. made_of parts.new heard ≡ request_made (setting_of parts.old) (world_of parts.old) bytes.now
-        (answer_to (setting_of parts.old).sizes (device_now (setting_of parts.old) (world_of parts.old)) bytes.now)) }
+        (answer_to (setting_of parts.old).sizes (device_now (setting_of parts.old) (world_of parts.old)) (calls_now (setting_of parts.old) (world_of parts.old)) bytes.now)) }
     ensures is { IsMachine parts.new }
     ensures setting { setting_of parts.new ≡ setting_of parts.old }
     ensures err { OnErr result (state_of parts.new ≡ state_of parts.old) }
@@ -128,7 +128,7 @@ fn unplug_all(parts: &mut Parts, bytes: &RequestBytes) -> Result<Heard, OutOfMem
     requires may { MayRequest (setting_of parts.old) 0 (world_of parts.old) bytes.now }
     requires all { request_in bytes.now ≡ Some Request.UnplugAll }
     ensures made { IfOk result (λ heard. made_of parts.new heard ≡ request_made (setting_of parts.old) (world_of parts.old) bytes.now
-        (answer_to (setting_of parts.old).sizes (device_now (setting_of parts.old) (world_of parts.old)) bytes.now)) }
+        (answer_to (setting_of parts.old).sizes (device_now (setting_of parts.old) (world_of parts.old)) (calls_now (setting_of parts.old) (world_of parts.old)) bytes.now)) }
     ensures is { IsMachine parts.new }
     ensures setting { setting_of parts.new ≡ setting_of parts.old }
     ensures err { OnErr result (state_of parts.new ≡ state_of parts.old) }
@@ -162,7 +162,7 @@ pub(crate) fn request(parts: &mut Parts, bytes: &RequestBytes) -> Result<Heard, 
     requires is { IsMachine parts.old }
     requires may { MayRequest (setting_of parts.old) 0 (world_of parts.old) bytes.now }
     ensures made { IfOk result (λ heard. made_of parts.new heard ≡ request_made (setting_of parts.old) (world_of parts.old) bytes.now
-        (answer_to (setting_of parts.old).sizes (device_now (setting_of parts.old) (world_of parts.old)) bytes.now)) }
+        (answer_to (setting_of parts.old).sizes (device_now (setting_of parts.old) (world_of parts.old)) (calls_now (setting_of parts.old) (world_of parts.old)) bytes.now)) }
     ensures is { IsMachine parts.new }
     ensures setting { setting_of parts.new ≡ setting_of parts.old }
     ensures err { OnErr result (state_of parts.new ≡ state_of parts.old) }

@@ -15,5 +15,7 @@ mod space_calls;
 mod steps;
 
 pub use action::{Action, BlockCall, BlockHeard, DeviceCall, DeviceHeard, Heard, SpaceCall};
-pub use laws::{actions_keep_consistency, mapped_pages_are_plugged, starts_are_consistent};
+pub use laws::{
+    actions_keep_consistency, cells_have_64_bits, mapped_pages_are_plugged, starts_are_consistent,
+};
 pub use machine::{Journals, Machine};

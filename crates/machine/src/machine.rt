@@ -55,8 +55,8 @@ impl Machine {
         Machine { parts }
     }
 
-    /// Makes an action of the actor on that seat, and gives what it hears. A lease and an isolation take the memory of the
-    /// frame space's journal, a request that of the device's, an UNPLUG_ALL that of a list of the plugged blocks besides,
+    /// Makes an action of the actor on that seat, and gives what it hears. A lease, a target and an isolation take the
+    /// memory of the frame space's journal, a request that of the device's, an UNPLUG_ALL that of a list of the plugged blocks besides,
     /// and a take by the driver that of its notice; where there is none, nothing changes. Other actions take none.
     pub fn make(&mut self, seat: u32, action: &Action) -> Result<Heard, OutOfMemory>
         requires may { MayMake self.old.setting seat self.old.world action.now }

@@ -2,12 +2,12 @@
 
 use crate::no_listener::NoListener;
 use core_state::Core;
-use mem_device::{BlockHand, Device, SureSlate};
+use mem_device::{BlockHand, Device, Slate};
 use space::Space;
 use std::alloc::Global;
 
-/// The memory device of a machine: no listener joins it yet, and its backing never fails.
-pub(crate) type MachineDevice = Device<NoListener, SureSlate, BlockHand>;
+/// The memory device of a machine: no listener joins it yet, and its backing fails at the calls that are listed.
+pub(crate) type MachineDevice = Device<NoListener, Slate, BlockHand>;
 
 /// The words and the views, the frame space, the memory device, the blocks that the driver holds, the number of
 /// owners, and where memory is taken.

@@ -220,5 +220,8 @@ pub(crate) const UNPLUGGED: Heard = Heard::Device(DeviceHeard::Answered(Response
 /// Some blocks of a range are plugged.
 pub(crate) const MIXED: Heard = Heard::Device(DeviceHeard::Answered(Response::Ack { state: 2 }));
 
+/// The device's backing failed.
+pub(crate) const BUSY: Heard = Heard::Device(DeviceHeard::Answered(Response::Busy));
+
 /// The request is none, or can't be met.
 pub(crate) const ERROR: Heard = Heard::Device(DeviceHeard::Answered(Response::Error));

@@ -4,7 +4,9 @@ ghost use Rattle.std.specs.Prelude.{◌≡◌, IfOk};
 ghost use Rattle.evac_model.specs.Geometry.{Sizes, IsWithinLimits};
 
 use crate::{Act, make};
-use evac_model::{FrameNo, Geometry, GeometryFault, Kind, PageNo, SpaceAction, StartPage};
+use evac_model::{
+    FrameNo, Geometry, GeometryFault, Kind, NumberList, PageNo, SpaceAction, StartPage,
+};
 use machine::{Heard, Machine};
 use std::alloc::Global;
 use std::process::Abort;
@@ -38,13 +40,20 @@ const START: [StartPage; 2] = [
 /// unplugged frames. The words are the next ticket, 6 entry words, 10 dirty words and 20 cells.
 pub(crate) fn paged(alloc: Global) -> Result<Machine, Fail> {
     let g = sizes()?;
-    Ok(Machine::open(alloc, g, Kind::Unmovable, &START, &[3])?)
+    let none = NumberList::from_vec(Vec::new(alloc));
+    Ok(Machine::open(alloc, g, Kind::Unmovable, &START, &[3], none)?)
 }
 
-/// The same machine without pages.
-pub(crate) fn bare(alloc: Global) -> Result<Machine, Fail> {
+/// The same machine without pages, whose device's backing fails at these calls.
+pub(crate) fn failing(alloc: Global, fails: &[u64]) -> Result<Machine, Fail> {
     let g = sizes()?;
-    Ok(Machine::open(alloc, g, Kind::Unmovable, &[], &[3])?)
+    let fails = NumberList::from_vec(fails.to_vec(alloc)?);
+    Ok(Machine::open(alloc, g, Kind::Unmovable, &[], &[3], fails)?)
+}
+
+/// The one whose backing never fails.
+pub(crate) fn bare(alloc: Global) -> Result<Machine, Fail> {
+    failing(alloc, &[])
 }
 
 /// The actors make the actions of a table, one after another, and hear what is wanted.

@@ -2,10 +2,10 @@
 
 use crate::Act;
 use crate::acts::{
-    DONE, ERROR, MIXED, UNPLUGGED, isolate, lease, leased, offline, online, plug, state, unplug,
-    unplug_all,
+    BUSY, DONE, ERROR, MIXED, UNPLUGGED, isolate, lease, leased, offline, online, plug, state,
+    unplug, unplug_all,
 };
-use crate::play::{bare, compare, expect_hand, follow};
+use crate::play::{bare, compare, expect_hand, failing, follow};
 use evac_model::{Config, Kind, RequestBytes, Response};
 use machine::Heard::Nothing;
 use machine::{Action, DeviceCall, DeviceHeard, Heard, Machine};
@@ -98,6 +98,33 @@ fn blocks_that_are_online_are_not_unplugged(rt: HostRuntime) -> Result<(), Fail>
     compare(&rt, &m, &table);
     follow(&rt, &mut m, &[(unplug(64, 3), ERROR)]);
     expect_hand(&rt, &m, 0, &[2, 3, 6, 7]);
+    Ok(())
+}
+
+#[test]
+fn a_backing_that_fails_leaves_the_driver_its_block(rt: HostRuntime) -> Result<(), Fail> {
+    let mut m = failing(rt.alloc(), &[1])?;
+    let refused = [
+        (isolate(0), Nothing),
+        (offline(0), Nothing),
+        (unplug(32, 1), BUSY),
+        (state(32, 1), DONE),
+    ];
+    follow(&rt, &mut m, &refused);
+    expect_hand(&rt, &m, 0, &[2, 3]);
+    compare(&rt, &m, &[(unplug(32, 1), true), (online(0), true)]);
+    follow(&rt, &mut m, &[(online(0), Nothing)]);
+    expect_hand(&rt, &m, 0, &[]);
+    let again = [
+        (isolate(0), Nothing),
+        (offline(0), Nothing),
+        (unplug(32, 1), DONE),
+        (state(32, 1), UNPLUGGED),
+    ];
+    follow(&rt, &mut m, &again);
+    expect_hand(&rt, &m, 0, &[]);
+    expect_hand(&rt, &m, 3, &[0, 1, 4, 5, 6, 7]);
+    expect_hand(&rt, &m, 4, &[2, 3, 8, 9]);
     Ok(())
 }
 

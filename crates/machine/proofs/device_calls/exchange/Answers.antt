@@ -1,11 +1,11 @@
-use Rattle.std.proofs.Common.{◌≡◌, ℕ, ◌⊎◌, true, [], refl, sym, ap, ◌∙◌, arith}
+use Rattle.std.proofs.Common.{◌≡◌, ℕ, ◌⊎◌, true, [], refl, sym, ◌∙◌, arith}
 use Rattle.std.specs.List.{range_with_len}
 use Rattle.evac_model.specs.Numbers.{is_in}
-use Rattle.core_state.specs.declared.opening.Opening.{Opening}
 use Rattle.machine.specs.declared.parts.Parts.{Parts}
+use Rattle.machine.specs.Made.{request_made}
 use Rattle.machine.specs.MachineInside.{setting_of, world_of}
 use Rattle.machine.proofs.HeldBlocks.{named_in_hand, back_below, back_apart, given_known, machine_refused, answered_known, machine_answered}
-use Rattle.machine.proofs.RequestParts.{answer_of, came_of, named_of, gone_of, between_of, range_is, response_is, plugged_is, acknowledged, unacknowledged, taken_may, given_may, between_is, between_seats, world_request}
+use Rattle.machine.proofs.RequestParts.{answer_of, came_of, named_of, gone_of, between_of, range_is, response_is, plugged_is, acknowledged, unacknowledged, taken_may, given_may, between_is, between_seats, world_request, made_request, calls_request, setting_request}
 use Rattle.machine.proofs.device_calls.exchange.Goals as goal
 use Rattle.machine.proofs.device_calls.exchange.Goals.{After-named_range-n, In-Err, In-Ok, After-hand_range, In-Ack, In_default, After-hand_range-in-Ack}
 
@@ -17,7 +17,7 @@ range c =
 
 -- the response is the device's answer
 answered : (c : In-Ok) → c.in-Ok.field-0.response ≡ answer_of c.args.parts.now c.args.bytes.now
-answered c = response_is c.args.parts.now c.requires.is c.args.bytes.now c.as_slice-sent.result.now c.requires.may c.as_slice-sent.ensures.bytes _ c.in-Ok.field-0.response c.in-Ok.ensures.response
+answered c = response_is c.args.parts.now c.requires.is c.args.bytes.now c.as_slice-sent.result.now c.requires.may c.as_slice-sent.ensures.bytes _ _ c.in-Ok.field-0.response c.in-Ok.ensures.response
 
 -- where there is no memory, what comes back had been given
 lost : (c : In-Err) → range_with_len c.named_range-n.result.0.0 c.named_range-n.result.1 ≡ named_of c.args.parts.now c.args.bytes.now
@@ -31,7 +31,7 @@ known : (c : In-Ok) → range_with_len c.named_range-n.result.0.0 c.named_range-
     → (b : ℕ) → is_in b c.in-Ok.field-0.back.blocks ≡ true → (is_in b (came_of c.args.parts.now c.args.bytes.now) ≡ true) ⊎ (is_in b (named_of c.args.parts.now c.args.bytes.now) ≡ true)
 known c is =
     answered_known c.args.parts.now c.requires.is c.args.bytes.now c.as_slice-sent.result.now c.requires.may c.as_slice-sent.ensures.bytes c.named_range-n.result.0.0 c.named_range-n.result.1
-    c.part-given.new.self c.part-given.result is c.part-given.ensures.keeps c.part-given.ensures.gives _ c.in-Ok.field-0.response c.in-Ok.field-0.back c.in-Ok.ensures.response c.in-Ok.ensures.back
+    c.part-given.new.self c.part-given.result is c.part-given.ensures.keeps c.part-given.ensures.gives _ _ c.in-Ok.field-0.response c.in-Ok.field-0.back c.in-Ok.ensures.response c.in-Ok.ensures.back
 
 -- the frames of the blocks that were plugged are in the driver's hand
 moved : (c : After-hand_range) → c.in-Ok.field-0.response ≡ answer_of c.args.parts.now c.args.bytes.now → c.hand_range.new.core.snapshot ≡ between_of c.args.parts.now c.args.bytes.now
@@ -51,6 +51,29 @@ all_gone c is named = named ∙ sym (acknowledged c.args.parts.now c.requires.is
 
 none_gone : (c : In_default) → c.in-Ok.field-0.response ≡ answer_of c.args.parts.now c.args.bytes.now → [] ≡ gone_of c.args.parts.now c.args.bytes.now
 none_gone c is = sym (unacknowledged c.args.parts.now c.requires.is c.args.bytes.now c.as_slice-sent.result.now c.requires.may c.as_slice-sent.ensures.bytes (λ state ack. c.in_default.not-Ack state (is ∙ ack)))
+
+-- the parts then, and their world, where it was acknowledged
+abbrev parts_acknowledged : After-hand_range-in-Ack → Parts
+parts_acknowledged c = record c.args.parts.now { core = c.hand_range-in-Ack.new.core; device = c.answer.new.self; held = c.merge-in-Ok.new.self }
+
+world_acknowledged : (c : After-hand_range-in-Ack) → c.in-Ok.field-0.response ≡ answer_of c.args.parts.now c.args.bytes.now → c.hand_range.new.core.snapshot ≡ between_of c.args.parts.now c.args.bytes.now
+    → range_with_len c.named_range-n.result.0.0 c.named_range-n.result.1 ≡ gone_of c.args.parts.now c.args.bytes.now
+    → world_of (parts_acknowledged c) ≡ (request_made (setting_of c.args.parts.now) (world_of c.args.parts.now) c.args.bytes.now (answer_of c.args.parts.now c.args.bytes.now)).world
+world_acknowledged c is between gone =
+    world_request c.args.parts.now c.requires.is c.args.bytes.now c.as_slice-sent.result.now c.requires.may c.as_slice-sent.ensures.bytes
+    (parts_acknowledged c) c.geometry-g.result c.hand_range.new.core.snapshot (range_with_len c.named_range-n.result.0.0 c.named_range-n.result.1) c.in-Ok.field-0.response (c.geometry-g.ensures.sizes ∙ (c.plugged.ensures.sizes ∙ c.requires.is.device))
+    between gone is c.hand_range-in-Ack.ensures.handed refl c.in-Ok.ensures.journal
+
+-- and where it wasn't
+abbrev parts_unacknowledged : In_default → Parts
+parts_unacknowledged c = record c.args.parts.now { core = c.hand_range.new.core; device = c.answer.new.self; held = c.merge-in-Ok.new.self }
+
+world_unacknowledged : (c : In_default) → c.in-Ok.field-0.response ≡ answer_of c.args.parts.now c.args.bytes.now → c.hand_range.new.core.snapshot ≡ between_of c.args.parts.now c.args.bytes.now
+    → world_of (parts_unacknowledged c) ≡ (request_made (setting_of c.args.parts.now) (world_of c.args.parts.now) c.args.bytes.now (answer_of c.args.parts.now c.args.bytes.now)).world
+world_unacknowledged c is between =
+    world_request c.args.parts.now c.requires.is c.args.bytes.now c.as_slice-sent.result.now c.requires.may c.as_slice-sent.ensures.bytes
+    (parts_unacknowledged c) c.geometry-g.result c.hand_range.new.core.snapshot [] c.in-Ok.field-0.response (c.geometry-g.ensures.sizes ∙ (c.plugged.ensures.sizes ∙ c.requires.is.device))
+    between (none_gone c is) is refl refl c.in-Ok.ensures.journal
 
 pub part-given-requires-clause-has : goal.part-given-requires-clause-has
 part-given-requires-clause-has c =
@@ -116,33 +139,45 @@ returns-in-Err-clause-is c =
     let err = c.in-Err.ensures.err in
     machine_refused c.args.parts.now c.requires.is c.args.bytes.now c.as_slice-sent.result.now c.requires.may c.as_slice-sent.ensures.bytes c.named_range-n.result.0.0 c.named_range-n.result.1
     c.part-given.new.self c.part-given.result (range h.After-named_range-n) c.part-given.ensures.keeps c.part-given.ensures.gives c.in-Err.field-0.held c.in-Err.ensures.held_back
-    (record c.args.parts.now { device = c.answer.new.self; held = c.merge.new.self }) refl (λ i. world_of (record c.args.parts.now { device = err i; held = c.merge.new.self })) (λ i. (err i).sizes)
+    (record c.args.parts.now { device = c.answer.new.self; held = c.merge.new.self }) (λ i. setting_of (record c.args.parts.now { device = err i; held = c.merge.new.self })) (λ i. world_of (record c.args.parts.now { device = err i; held = c.merge.new.self })) err
     c.merge.ensures.takes (c.merge.ensures.room ∙ c.part-given.ensures.room)
+
+pub returns-in-Ack-clause-made : goal.returns-in-Ack-clause-made
+returns-in-Ack-clause-made c =
+    let h = goal.at.returns-in-Ack-clause-made c in
+    let is = answered h.In-Ok in
+    made_request c.args.parts.now c.requires.is c.args.bytes.now c.as_slice-sent.result.now c.requires.may c.as_slice-sent.ensures.bytes
+    (parts_acknowledged h.After-hand_range-in-Ack) c.in-Ok.field-0.response is (world_acknowledged h.After-hand_range-in-Ack is (moved h.After-hand_range is) (all_gone h.In-Ack is (range h.After-named_range-n)))
+
+pub returns-in_default-clause-made : goal.returns-in_default-clause-made
+returns-in_default-clause-made c =
+    let h = goal.at.returns-in_default-clause-made c in
+    let is = answered h.In-Ok in
+    made_request c.args.parts.now c.requires.is c.args.bytes.now c.as_slice-sent.result.now c.requires.may c.as_slice-sent.ensures.bytes
+    (parts_unacknowledged h.In_default) c.in-Ok.field-0.response is (world_unacknowledged h.In_default is (moved h.After-hand_range is))
 
 pub returns-in-Ack-clause-is : goal.returns-in-Ack-clause-is
 returns-in-Ack-clause-is c =
     let h = goal.at.returns-in-Ack-clause-is c in
     let is = answered h.In-Ok in
     let named = range h.After-named_range-n in
-    let b : Parts = record c.args.parts.now { core = c.hand_range-in-Ack.new.core; device = c.answer.new.self; held = c.merge-in-Ok.new.self } in
+    let b : Parts = parts_acknowledged h.After-hand_range-in-Ack in
     machine_answered c.args.parts.now c.requires.is c.args.bytes.now c.as_slice-sent.result.now c.requires.may c.as_slice-sent.ensures.bytes c.named_range-n.result.0.0 c.named_range-n.result.1
-    c.part-given.new.self c.part-given.result named c.part-given.ensures.keeps c.part-given.ensures.gives _ c.in-Ok.field-0.response c.in-Ok.field-0.back c.in-Ok.ensures.response c.in-Ok.ensures.back
-    b (ap (λ (o : Opening). record (setting_of c.args.parts.now) { opening = o }) (c.hand_range-in-Ack.ensures.opening ∙ c.hand_range.ensures.opening))
-    (world_request c.args.parts.now c.requires.is c.args.bytes.now c.as_slice-sent.result.now c.requires.may c.as_slice-sent.ensures.bytes
-    b c.geometry-g.result c.hand_range.new.core.snapshot (range_with_len c.named_range-n.result.0.0 c.named_range-n.result.1) c.in-Ok.field-0.response (c.geometry-g.ensures.sizes ∙ (c.plugged.ensures.sizes ∙ c.requires.is.device))
-    (moved h.After-hand_range is) (all_gone h.In-Ack is named) is c.hand_range-in-Ack.ensures.handed refl c.in-Ok.ensures.journal)
-    c.in-Ok.ensures.sizes c.merge-in-Ok.ensures.takes (c.merge-in-Ok.ensures.room ∙ c.part-given.ensures.room)
+    c.part-given.new.self c.part-given.result named c.part-given.ensures.keeps c.part-given.ensures.gives _ _ c.in-Ok.field-0.response c.in-Ok.field-0.back c.in-Ok.ensures.response c.in-Ok.ensures.back
+    b (setting_request c.args.parts.now c.requires.is c.args.bytes.now c.as_slice-sent.result.now c.requires.may c.as_slice-sent.ensures.bytes c.answer.new.self.backing c.in-Ok.ensures.asked b _ (c.hand_range-in-Ack.ensures.opening ∙ c.hand_range.ensures.opening) refl)
+    (world_acknowledged h.After-hand_range-in-Ack is (moved h.After-hand_range is) (all_gone h.In-Ack is named))
+    c.in-Ok.ensures.sizes (calls_request c.args.parts.now c.requires.is c.args.bytes.now c.as_slice-sent.result.now c.requires.may c.as_slice-sent.ensures.bytes c.answer.new.self.backing c.in-Ok.ensures.asked)
+    c.merge-in-Ok.ensures.takes (c.merge-in-Ok.ensures.room ∙ c.part-given.ensures.room)
 
 pub returns-in_default-clause-is : goal.returns-in_default-clause-is
 returns-in_default-clause-is c =
     let h = goal.at.returns-in_default-clause-is c in
     let is = answered h.In-Ok in
     let named = range h.After-named_range-n in
-    let b : Parts = record c.args.parts.now { core = c.hand_range.new.core; device = c.answer.new.self; held = c.merge-in-Ok.new.self } in
+    let b : Parts = parts_unacknowledged h.In_default in
     machine_answered c.args.parts.now c.requires.is c.args.bytes.now c.as_slice-sent.result.now c.requires.may c.as_slice-sent.ensures.bytes c.named_range-n.result.0.0 c.named_range-n.result.1
-    c.part-given.new.self c.part-given.result named c.part-given.ensures.keeps c.part-given.ensures.gives _ c.in-Ok.field-0.response c.in-Ok.field-0.back c.in-Ok.ensures.response c.in-Ok.ensures.back
-    b (ap (λ (o : Opening). record (setting_of c.args.parts.now) { opening = o }) c.hand_range.ensures.opening)
-    (world_request c.args.parts.now c.requires.is c.args.bytes.now c.as_slice-sent.result.now c.requires.may c.as_slice-sent.ensures.bytes
-    b c.geometry-g.result c.hand_range.new.core.snapshot [] c.in-Ok.field-0.response (c.geometry-g.ensures.sizes ∙ (c.plugged.ensures.sizes ∙ c.requires.is.device))
-    (moved h.After-hand_range is) (none_gone h.In_default is) is refl refl c.in-Ok.ensures.journal)
-    c.in-Ok.ensures.sizes c.merge-in-Ok.ensures.takes (c.merge-in-Ok.ensures.room ∙ c.part-given.ensures.room)
+    c.part-given.new.self c.part-given.result named c.part-given.ensures.keeps c.part-given.ensures.gives _ _ c.in-Ok.field-0.response c.in-Ok.field-0.back c.in-Ok.ensures.response c.in-Ok.ensures.back
+    b (setting_request c.args.parts.now c.requires.is c.args.bytes.now c.as_slice-sent.result.now c.requires.may c.as_slice-sent.ensures.bytes c.answer.new.self.backing c.in-Ok.ensures.asked b _ c.hand_range.ensures.opening refl)
+    (world_unacknowledged h.In_default is (moved h.After-hand_range is))
+    c.in-Ok.ensures.sizes (calls_request c.args.parts.now c.requires.is c.args.bytes.now c.as_slice-sent.result.now c.requires.may c.as_slice-sent.ensures.bytes c.answer.new.self.backing c.in-Ok.ensures.asked)
+    c.merge-in-Ok.ensures.takes (c.merge-in-Ok.ensures.room ∙ c.part-given.ensures.room)

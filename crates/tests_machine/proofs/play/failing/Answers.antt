@@ -2,7 +2,7 @@ use Rattle.std.proofs.Common.{sym, subst, arith}
 use Rattle.std.specs.List.{IsDistinct}
 use Rattle.evac_model.specs.Geometry.{Sizes}
 use Rattle.machine.specs.Start.{MayStart}
-use Rattle.tests_machine.proofs.play.bare.Goals as goal
+use Rattle.tests_machine.proofs.play.failing.Goals as goal
 
 pub open-requires : goal.open-requires
 unfolding IsDistinct
