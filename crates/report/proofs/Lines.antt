@@ -7,12 +7,13 @@ use Rattle.evac_model.specs.declared.device_journal.Notice.{Notice}
 use Rattle.evac_model.specs.declared.entry.Entry.{Entry}
 use Rattle.evac_model.specs.declared.host.HostRun.{HostRun}
 use Rattle.evac_model.specs.declared.space.SpaceAction.{SpaceAction}
+use Rattle.evac_model.specs.declared.tried.Tried.{Tried}
 use Rattle.report.specs.declared.line.Line.{Line}
 use Rattle.report.specs.declared.line.Line.TheVariants as lines
 use Rattle.report.specs.declared.report.FinalPage.{FinalPage}
 use Rattle.report.specs.declared.report.Report.{Report}
-use Rattle.report.specs.ReportText.{line, entry_text, host_text, act_text, notice_text, plugged_text, page_text, line_text, space_lines, device_lines, report_text}
-use Rattle.report.specs.Sections.{space_text, device_text, sections_text}
+use Rattle.report.specs.ReportText.{line, entry_text, host_text, act_text, notice_text, plugged_text, page_text, line_text, run_lines, space_lines, device_lines, report_text}
+use Rattle.report.specs.Sections.{run_text, space_text, device_text, sections_text}
 
 -- the text of lines behind other lines
 texts : (xs ys : List Line) → flat_map line_text (xs ++ ys) ≡ flat_map line_text xs ++ flat_map line_text ys
@@ -23,18 +24,29 @@ texts_of_each : {X : Type 0} (make : X → Line) (xs : List X) → flat_map line
 texts_of_each make [] = refl
 texts_of_each make (x ∷ xs) = ap (λ (t : List ℕ). line_text (make x) ++ t) (texts_of_each make xs)
 
-text_of_space : (place : ℕ) (actions : List SpaceAction) → flat_map line_text (space_lines place actions) ≡ space_text place actions
-text_of_space place [] = refl
-text_of_space place (a ∷ actions) = ap (λ (t : List ℕ). line_text (lines.Space place a) ++ t) (text_of_space (place + 1) actions)
+both : (a b c d : List ℕ) → a ≡ c → b ≡ d → a ++ b ≡ c ++ d
+both a b c d p q = ap (λ (t : List ℕ). t ++ b) p ∙ ap (λ (t : List ℕ). c ++ t) q
 
-text_of_device : (place : ℕ) (actions : List DeviceAction) → flat_map line_text (device_lines place actions) ≡ device_text place actions
-text_of_device place [] = refl
-text_of_device place (a ∷ actions) =
-    ap (λ (t : List ℕ). act_text place a.act ++ t)
-    (texts (map (λ (x : Notice). lines.Notice place x) a.notices) (device_lines (place + 1) actions)
-    ∙ (ap (λ (t : List ℕ). t ++ flat_map line_text (device_lines (place + 1) actions)) (texts_of_each (λ (x : Notice). lines.Notice place x) a.notices)
-    ∙ ap (λ (t : List ℕ). flat_map (notice_text place) a.notices ++ t) (text_of_device (place + 1) actions)))
-    ∙ sym (append_assoc (act_text place a.act) (flat_map (notice_text place) a.notices) (device_text (place + 1) actions))
+-- a command, and the blocks that it tried
+text_of_run : (r : HostRun) → flat_map line_text (run_lines r) ≡ run_text r
+text_of_run r = ap (λ (t : List ℕ). host_text r.line.no r.command r.line.result ++ t) (texts_of_each (λ (t : Tried). lines.Tried t) r.line.tried)
+
+text_of_runs : (runs : List HostRun) → flat_map line_text (flat_map run_lines runs) ≡ flat_map run_text runs
+text_of_runs [] = refl
+text_of_runs (r ∷ runs) = texts (run_lines r) (flat_map run_lines runs) ∙ both _ _ _ _ (text_of_run r) (text_of_runs runs)
+
+text_of_space : (number : ℕ) (actions : List SpaceAction) → flat_map line_text (space_lines number actions) ≡ space_text number actions
+text_of_space number [] = refl
+text_of_space number (a ∷ actions) = ap (λ (t : List ℕ). line_text (lines.Space number a) ++ t) (text_of_space (number + 1) actions)
+
+text_of_device : (number : ℕ) (actions : List DeviceAction) → flat_map line_text (device_lines number actions) ≡ device_text number actions
+text_of_device number [] = refl
+text_of_device number (a ∷ actions) =
+    ap (λ (t : List ℕ). act_text number a.act ++ t)
+    (texts (map (λ (x : Notice). lines.Notice number x) a.notices) (device_lines (number + 1) actions)
+    ∙ (ap (λ (t : List ℕ). t ++ flat_map line_text (device_lines (number + 1) actions)) (texts_of_each (λ (x : Notice). lines.Notice number x) a.notices)
+    ∙ ap (λ (t : List ℕ). flat_map (notice_text number) a.notices ++ t) (text_of_device (number + 1) actions)))
+    ∙ sym (append_assoc (act_text number a.act) (flat_map (notice_text number) a.notices) (device_text (number + 1) actions))
 
 -- the last lines
 text_of_end : (r : Report) → flat_map line_text (lines.Plugged r.plugged ∷ (map (λ p. lines.Page p) r.pages ++ lines.End ∷ [])) ≡ plugged_text r.plugged ++ (flat_map page_text r.pages ++ line (codes "end") [])
@@ -43,15 +55,12 @@ text_of_end r = ap (λ (t : List ℕ). plugged_text r.plugged ++ t)
     ∙ (ap (λ (t : List ℕ). t ++ flat_map line_text (lines.End ∷ [])) (texts_of_each (λ (p : FinalPage). lines.Page p) r.pages)
     ∙ ap (λ (t : List ℕ). flat_map page_text r.pages ++ t) (append-nil (line (codes "end") []))))
 
-both : (a b c d : List ℕ) → a ≡ c → b ≡ d → a ++ b ≡ c ++ d
-both a b c d p q = ap (λ (t : List ℕ). t ++ b) p ∙ ap (λ (t : List ℕ). c ++ t) q
-
 module _ (r : Report) where
   abbrev calls : List Line
   calls = map (λ (e : Entry). lines.Call e) r.history
 
   abbrev commands : List Line
-  commands = map (λ (x : HostRun). lines.Host x) r.host
+  commands = flat_map run_lines r.host
 
   abbrev space : List Line
   space = space_lines 0 r.space_journal
@@ -63,7 +72,7 @@ module _ (r : Report) where
   rest = lines.Plugged r.plugged ∷ (map (λ (p : FinalPage). lines.Page p) r.pages ++ lines.End ∷ [])
 
   abbrev front : List ℕ
-  front = flat_map entry_text r.history ++ flat_map host_text r.host ++ space_text 0 r.space_journal ++ device_text 0 r.device_journal
+  front = flat_map entry_text r.history ++ flat_map run_text r.host ++ space_text 0 r.space_journal ++ device_text 0 r.device_journal
 
   pub text_by_sections : report_text r ≡ sections_text r
   text_by_sections =
@@ -74,7 +83,7 @@ module _ (r : Report) where
       (texts (calls ++ commands) space
       ∙ both _ _ _ _
       (texts calls commands
-      ∙ both _ _ _ _ (texts_of_each (λ (e : Entry). lines.Call e) r.history) (texts_of_each (λ (x : HostRun). lines.Host x) r.host))
+      ∙ both _ _ _ _ (texts_of_each (λ (e : Entry). lines.Call e) r.history) (text_of_runs r.host))
       (text_of_space 0 r.space_journal))
       (text_of_device 0 r.device_journal))
       (text_of_end r)

@@ -1,16 +1,20 @@
 -- What a report tells of a scenario's run, whatever its schedule was: the calls, the frames, the host and the memory device.
-use Rattle.std.specs.Prelude.{◌≡◌, ℕ, true, List, map, None}
+use Rattle.std.specs.Prelude.{◌≡◌, ℕ, true, List, [], length, map, None}
+use Rattle.std.specs.List.{range_with_len, AllByRecursion}
 use Rattle.std.specs.List.Sorted.{IsStrictlyIncreasing}
 use Rattle.evac_model.specs.declared.names.BlockNo.{BlockNo}
 use Rattle.evac_model.specs.declared.scenario.Scenario.{Scenario}
+use Rattle.evac_model.specs.Counts.{first_of_calls}
 use Rattle.evac_model.specs.DeviceAnswer.{DeviceState, device_at_start, device_after}
+use Rattle.evac_model.specs.DeviceJournal.{AreAnswered}
 use Rattle.evac_model.specs.History.{after_entries, IsLegal}
-use Rattle.evac_model.specs.HostCommands.{host_actions, host_lines, host_onlines, host_runs, AreAnswered}
 use Rattle.evac_model.specs.Pairing.{actions_of, ArePaired, AreOutForPages, AreUnplugged}
 use Rattle.evac_model.specs.ScenarioGrammar.{online_of}
 use Rattle.evac_model.specs.Scripts.{IsOfScripts}
 use Rattle.evac_model.specs.SpaceJournal.{SpaceState, out_for, is_frame_in, space_after, space_at_start}
 use Rattle.evac_model.specs.State.{PlainState, start_state}
+use Rattle.host_work.specs.Commands.{AreDoneBy}
+use Rattle.host_work.specs.Evacuated.{by_tale}
 use Rattle.report.specs.declared.report.Report.{Report}
 use Rattle.report.specs.FinalPages.{pages_state}
 
@@ -54,14 +58,16 @@ pub record AreFramesTold (s : Scenario) (r : Report) : Type 0 where
   pub offline : AreUnplugged s.geometry (space_reported s r) r.plugged
   pub no_unplugged : (frame : ℕ) → is_frame_in s.geometry (space_reported s r).offline frame ≡ true → out_for (space_reported s r) frame ≡ None
 
--- The host's commands are reported in their order, each with what the device gave by the actions before; the device's
--- actions are those of the commands, each response is its answer by the actions before it, and the driver put the
--- blocks online that were plugged, and no others. The plugged blocks are those that the device's actions leave.
+-- The host's commands are reported in their order, numbered from 0, each with what it gave and the blocks that it tried. One
+-- after another they did all that the driver did to the frame space, and all that the device did. Each response is the device's
+-- answer by the actions before it, where no call of the backing fails, and no listener was told of any. The plugged blocks are
+-- those that the device's actions leave.
 pub record AreHostAndDeviceTold (s : Scenario) (r : Report) : Type 0 where
-  pub lines : r.host ≡ host_runs s.host (host_lines s.geometry (device_start s) 0 s.host)
-  pub device : r.device_journal ≡ host_actions s.geometry (device_start s) s.host
-  pub answered : AreAnswered s.geometry (device_start s) r.device_journal
-  pub driver : actions_of 0 r.space_journal ≡ host_onlines s.geometry (device_start s) s.host
+  pub commands : map (λ x. x.command) r.host ≡ s.host
+  pub numbers : map (λ x. x.line.no) r.host ≡ range_with_len 0 (length s.host)
+  pub did : AreDoneBy (by_tale s.geometry) [] s.geometry (device_start s) r.host (actions_of 0 r.space_journal) r.device_journal
+  pub answered : AreAnswered s.geometry (device_start s) (first_of_calls []) r.device_journal
+  pub no_notices : AllByRecursion (λ a. a.notices ≡ []) r.device_journal
   pub plugged : r.plugged ≡ block_list (device_reported s r).plugged
 
 -- ---- the report of a scenario

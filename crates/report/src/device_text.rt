@@ -90,37 +90,37 @@ fn put_told(out: &mut Vec<u8>, first: BlockNo, n: u32, told: Told) -> Result<(),
     }
 }
 
-/// Adds the line of a notice of the action that stands at that place of its journal.
-fn put_notice(out: &mut Vec<u8>, place: u64, notice: &Notice) -> Result<(), AllocError>
-    ensures { OnOk result (out.new.items ≡ out.old.items ++ notice_text place notice.now) }
+/// Adds the line of a notice of the action with this number.
+fn put_notice(out: &mut Vec<u8>, number: u64, notice: &Notice) -> Result<(), AllocError>
+    ensures { OnOk result (out.new.items ≡ out.old.items ++ notice_text number notice.now) }
 {
     out.extend_from_slice(b"notice")?;
-    put_number(out, place)?;
+    put_number(out, number)?;
     put_key(out, notice.key)?;
     put_told(out, notice.first, notice.n, notice.told)?;
     Ok(out.push(b'\n')?)
 }
 
-/// Adds a line for each notice of the action that stands at that place of its journal.
-fn put_notices(out: &mut Vec<u8>, place: u64, notices: &[Notice]) -> Result<(), AllocError>
-    ensures { OnOk result (out.new.items ≡ out.old.items ++ flat_map (notice_text place) notices.now) }
+/// Adds a line for each notice of the action with this number.
+fn put_notices(out: &mut Vec<u8>, number: u64, notices: &[Notice]) -> Result<(), AllocError>
+    ensures { OnOk result (out.new.items ≡ out.old.items ++ flat_map (notice_text number) notices.now) }
 {
     for notice in notices {
-        put_notice(out, place, notice)?;
+        put_notice(out, number, notice)?;
     }
     Ok(())
 }
 
-/// Adds the line of the action that stands at that place of its journal, and those of its notices.
-fn put_action(out: &mut Vec<u8>, place: u64, action: &DeviceAction) -> Result<(), AllocError>
+/// Adds the line of the action with this number, and those of its notices.
+fn put_action(out: &mut Vec<u8>, number: u64, action: &DeviceAction) -> Result<(), AllocError>
     requires { HasActState action.now.act }
-    ensures { OnOk result (out.new.items ≡ out.old.items ++ (act_text place action.now.act ++ flat_map (notice_text place) action.now.notices)) }
+    ensures { OnOk result (out.new.items ≡ out.old.items ++ (act_text number action.now.act ++ flat_map (notice_text number) action.now.notices)) }
 {
     out.extend_from_slice(b"device")?;
-    put_number(out, place)?;
+    put_number(out, number)?;
     put_act(out, &action.act)?;
     out.push(b'\n')?;
-    put_notices(out, place, action.notices.as_slice())
+    put_notices(out, number, action.notices.as_slice())
 }
 
 /// Adds a line for each action, numbered from 0, and behind it one for each of its notices.
@@ -128,8 +128,8 @@ pub fn put_actions(out: &mut Vec<u8>, actions: &[DeviceAction]) -> Result<(), Al
     requires { AllByRecursion (λ a. HasActState a.act) actions.now }
     ensures { OnOk result (out.new.items ≡ out.old.items ++ device_text 0 actions.now) }
 {
-    for (place, action) in actions.iter().enumerate() {
-        put_action(out, place as u64, action)?;
+    for (number, action) in actions.iter().enumerate() {
+        put_action(out, number as u64, action)?;
     }
     Ok(())
 }

@@ -1,4 +1,4 @@
-//! The lines of the host's commands.
+//! The lines of the host's commands, and of the blocks that they tried.
 
 ghost use Rattle.std.specs.Prelude.{◌≡◌, ◌++◌, OnOk};
 ghost use Rattle.std.specs.List.{AllByRecursion, flat_map};
@@ -6,7 +6,9 @@ ghost use Rattle.hex.specs.Hex.{encode_lower};
 ghost use Rattle.mem_codec.specs.ConfigBytes.{config_bytes};
 ghost use Rattle.evac_model.specs.Spelling.{command_words};
 ghost use Rattle.report.specs.ReportText.{behind_space, result_words, host_text, HasResultState};
+ghost use Rattle.report.specs.Sections.{run_text};
 
+use crate::tried_text::put_blocks;
 use crate::words::{put_hex, put_number, put_response, put_word};
 use evac_model::{Config, HostCommand, HostResult, HostRun};
 use mem_codec::write_config;
@@ -41,14 +43,15 @@ fn put_result(out: &mut Vec<u8>, given: &HostResult) -> Result<(), AllocError>
 {
     match given {
         HostResult::Answered(response) => put_response(out, *response),
+        HostResult::Unsent => put_word(out, b"unsent"),
         HostResult::Config(config) => put_config(out, config),
     }
 }
 
 /// Adds the line of a command.
-fn put_run(out: &mut Vec<u8>, run: &HostRun) -> Result<(), AllocError>
+fn put_line(out: &mut Vec<u8>, run: &HostRun) -> Result<(), AllocError>
     requires { HasResultState run.now.line.result }
-    ensures { OnOk result (out.new.items ≡ out.old.items ++ host_text run.now) }
+    ensures { OnOk result (out.new.items ≡ out.old.items ++ host_text run.now.line.no run.now.command run.now.line.result) }
 {
     out.extend_from_slice(b"host")?;
     put_number(out, run.line.no)?;
@@ -58,10 +61,19 @@ fn put_run(out: &mut Vec<u8>, run: &HostRun) -> Result<(), AllocError>
     Ok(out.push(b'\n')?)
 }
 
-/// Adds a line for each command.
+/// Adds the line of a command, and those of the blocks that it tried.
+fn put_run(out: &mut Vec<u8>, run: &HostRun) -> Result<(), AllocError>
+    requires { HasResultState run.now.line.result }
+    ensures { OnOk result (out.new.items ≡ out.old.items ++ run_text run.now) }
+{
+    put_line(out, run)?;
+    put_blocks(out, run.line.tried.as_slice())
+}
+
+/// Adds a line for each command, and behind it one for each block that it tried.
 pub fn put_runs(out: &mut Vec<u8>, runs: &[HostRun]) -> Result<(), AllocError>
     requires { AllByRecursion (λ x. HasResultState x.line.result) runs.now }
-    ensures { OnOk result (out.new.items ≡ out.old.items ++ flat_map host_text runs.now) }
+    ensures { OnOk result (out.new.items ≡ out.old.items ++ flat_map run_text runs.now) }
 {
     for run in runs {
         put_run(out, run)?;

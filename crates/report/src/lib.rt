@@ -7,6 +7,7 @@ mod line;
 mod report;
 mod space_text;
 mod text;
+mod tried_text;
 mod words;
 
 pub use line::Line;

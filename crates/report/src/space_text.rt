@@ -69,12 +69,12 @@ fn put_action_words(out: &mut Vec<u8>, action: &SpaceAction) -> Result<(), Alloc
     }
 }
 
-/// Adds the line of the action that stands at that place of its journal.
-fn put_action(out: &mut Vec<u8>, place: u64, action: &SpaceAction) -> Result<(), AllocError>
-    ensures { OnOk result (out.new.items ≡ out.old.items ++ action_text place action.now) }
+/// Adds the line of the action with this number.
+fn put_action(out: &mut Vec<u8>, number: u64, action: &SpaceAction) -> Result<(), AllocError>
+    ensures { OnOk result (out.new.items ≡ out.old.items ++ action_text number action.now) }
 {
     out.extend_from_slice(b"space")?;
-    put_number(out, place)?;
+    put_number(out, number)?;
     put_action_words(out, action)?;
     Ok(out.push(b'\n')?)
 }
@@ -83,8 +83,8 @@ fn put_action(out: &mut Vec<u8>, place: u64, action: &SpaceAction) -> Result<(),
 pub fn put_actions(out: &mut Vec<u8>, actions: &[SpaceAction]) -> Result<(), AllocError>
     ensures { OnOk result (out.new.items ≡ out.old.items ++ space_text 0 actions.now) }
 {
-    for (place, action) in actions.iter().enumerate() {
-        put_action(out, place as u64, action)?;
+    for (number, action) in actions.iter().enumerate() {
+        put_action(out, number as u64, action)?;
     }
     Ok(())
 }

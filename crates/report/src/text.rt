@@ -161,9 +161,10 @@ fn put_report(out: &mut Vec<u8>, report: &Report) -> Result<(), AllocError>
     out.extend_from_slice(b"end\n")
 }
 
-/// The text of a report: a line for each call in ticket order, for each command of the host, for each action
-/// of the frame space, and for each action of the memory device and each of its notices; the plugged blocks, a
-/// line for each page, and `end`. Each line ends with LF. The states of the report's responses are at most 2.
+/// The text of a report: a line for each call in ticket order, for each command of the host and behind it for each
+/// block that it tried, for each action of the frame space, and for each action of the memory device and each of its
+/// notices; the plugged blocks, a line for each page, and `end`. Each line ends with LF. The states of the responses
+/// that the host's requests and the device's actions have are at most 2; tried blocks have the answers' names alone.
 pub fn write_report(alloc: Global, report: &Report) -> Result<ByteList, OutOfMemory>
     requires { HaveStates report.now }
     ensures { IfOk result (λ text. text ≡ report_text report.now) }

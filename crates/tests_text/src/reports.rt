@@ -2,13 +2,12 @@
 
 ghost use Rattle.std.specs.Prelude.{◌≤◌, length, IfOk, OnOk};
 ghost use Rattle.std.specs.List.{AllByRecursion};
-ghost use Rattle.mem_codec.specs.ResponseBytes.{HasState};
 ghost use Rattle.report.specs.ReportText.{HasActState, HasResultState, HaveStates};
 
 use evac_model::{
-    BlockNo, Call, Cells, Config, DeviceAct, DeviceAction, Entry, EntryList, FrameNo, HostCommand,
-    HostLine, HostResult, HostRun, HostRunList, Kind, Listed, Notice, PageNo, Reply, RequestBytes,
-    Response, SpaceAction, Told,
+    BlockNo, Call, Cells, Config, DeviceAct, DeviceAction, Entry, EntryList, EvacCause, FrameNo,
+    HostCommand, HostLine, HostResult, HostRun, HostRunList, Kind, Listed, Notice, PageNo, Reply,
+    RequestBytes, Response, SpaceAction, Told, Tried, TriedList, TriedResult,
 };
 use report::{FinalPage, Report, write_report};
 use std::alloc::Global;
@@ -20,6 +19,14 @@ use std::test::Fail;
 const PLUG: [u8; 24] = [
     0, 0, 0, 0, 0, 0, 0, 0, 0x40, 1, 0, 0, 0, 0, 0, 0, 1, 0, 0, 0, 0, 0, 0, 0,
 ];
+
+/// An UNPLUG_ALL.
+const UNPLUG_ALL: [u8; 24] = [
+    2, 0, 0, 0, 0, 0, 0, 0, 0, 0, 0, 0, 0, 0, 0, 0, 0, 0, 0, 0, 0, 0, 0, 0,
+];
+
+/// The device did what it was asked.
+const ACK: Response = Response::Ack { state: 0 };
 
 /// The calls of page 5 by owner 12, one after the other, and their replies.
 fn history(alloc: Global, calls: &[(Call, Reply)]) -> Result<EntryList, Fail> {
@@ -178,10 +185,22 @@ end\n";
     is_written(&rt, alloc, &report, text)
 }
 
-/// A request of the host with the device's answer.
-fn asked(no: u64, bytes: &[u8], response: Response) -> HostRun
+/// The blocks with these numbers, and what came of each.
+fn tried(alloc: Global, blocks: &[(u32, TriedResult)]) -> Result<TriedList, Fail> {
+    let mut list = Vec::new(alloc);
+    for (block, result) in blocks {
+        list.push(Tried {
+            block: BlockNo(*block),
+            result: *result,
+        })?;
+    }
+    Ok(Listed::from_vec(list))
+}
+
+/// A request of the host, what it gave, and the blocks that it tried.
+fn asked(no: u64, bytes: &[u8], given: HostResult, tried: TriedList) -> HostRun
     requires bytes { length bytes.now ≤ 64 }
-    requires state { HasState response }
+    requires state { HasResultState given }
     ensures { HasResultState result.line.result }
 {
     HostRun {
@@ -190,14 +209,15 @@ fn asked(no: u64, bytes: &[u8], response: Response) -> HostRun
         },
         line: HostLine {
             no,
-            result: HostResult::Answered(response),
+            result: given,
+            tried,
         },
     }
 }
 
 /// The host reads the configuration of a machine with 2 cells in a frame, 4 frames in a block, and 2 boot and
 /// 4 managed blocks, all of these plugged.
-fn read(no: u64) -> HostRun
+fn read(alloc: Global, no: u64) -> HostRun
     ensures { HasResultState result.line.result }
 {
     let config = Config {
@@ -214,20 +234,23 @@ fn read(no: u64) -> HostRun
         line: HostLine {
             no,
             result: HostResult::Config(config),
+            tried: Listed::from_vec(Vec::new(alloc)),
         },
     }
 }
 
-/// Commands of each kind.
+/// Commands of each kind, which tried no block.
 fn host_runs(alloc: Global) -> Result<HostRunList, Fail>
     ensures { IfOk result (λ runs. AllByRecursion (λ x. HasResultState x.line.result) runs) }
 {
-    let runs = [
-        read(0),
-        asked(1, &PLUG, Response::Ack { state: 0 }),
-        asked(2, &[0xaf], Response::Error),
-    ];
-    Ok(Listed::from_vec(Vec::from_slice(alloc, &runs)?))
+    let none = tried(alloc, &[])?;
+    let acknowledged = asked(1, &PLUG, HostResult::Answered(ACK), none);
+    let none = tried(alloc, &[])?;
+    let refused = asked(2, &[0xaf], HostResult::Answered(Response::Error), none);
+    let none = tried(alloc, &[])?;
+    let unsent = asked(3, &UNPLUG_ALL, HostResult::Unsent, none);
+    let runs = [read(alloc, 0), acknowledged, refused, unsent];
+    Ok(Listed::from_vec(Vec::from_array(alloc, runs)?))
 }
 
 #[test]
@@ -236,11 +259,108 @@ fn a_line_of_each_command(rt: HostRuntime) -> Result<(), Fail> {
         b"host 0 config = 4000000000000000000000000000000080000000000000000001000000000000000100000000000000010000000000000001000000000000\n\
 host 1 request 000000000000000040010000000000000100000000000000 = 00000000000000000000\n\
 host 2 request af = 03000000000000000000\n\
+host 3 request 020000000000000000000000000000000000000000000000 = unsent\n\
 plugged\n\
 end\n";
     let mut report = nothing(rt.alloc());
     report.host = host_runs(rt.alloc())?;
     is_written(&rt, rt.alloc(), &report, text)
+}
+
+/// One request that tried blocks, and what came of them: each of the answers and of the causes.
+fn all_tried(alloc: Global) -> Result<TriedList, Fail> {
+    let frame = FrameNo(20);
+    let page = PageNo(5);
+    let max = u64::MAX;
+    let pinned = EvacCause::Pinned {
+        frame,
+        page,
+        word: 1_073_762_324,
+    };
+    let no_target = EvacCause::NoTarget { frame, page, at: 1 };
+    let busy = EvacCause::Busy {
+        frame: FrameNo(65_535),
+        page: PageNo(0),
+        words: [20_485, 0, 7, max, 4],
+    };
+    let blocks = [
+        (7, TriedResult::Unplugged),
+        (6, TriedResult::Emptied),
+        (5, TriedResult::Answered(ACK)),
+        (4, TriedResult::Answered(Response::Nack)),
+        (3, TriedResult::Answered(Response::Busy)),
+        (2, TriedResult::Answered(Response::Error)),
+        (1, TriedResult::Failed(EvacCause::Unmovable { frame, page })),
+        (0, TriedResult::Failed(pinned)),
+        (12, TriedResult::Failed(no_target)),
+        (11, TriedResult::Failed(busy)),
+        (65_535, TriedResult::Plugged(ACK)),
+        (10, TriedResult::Plugged(Response::Nack)),
+        (9, TriedResult::Plugged(Response::Busy)),
+        (8, TriedResult::Plugged(Response::Error)),
+    ];
+    tried(alloc, &blocks)
+}
+
+/// A report of one request that wasn't sent.
+fn one_unsent(alloc: Global, tried: TriedList) -> Result<Report, Fail>
+    ensures { IfOk result (λ report. HaveStates report) }
+{
+    let runs = [asked(0, &[1], HostResult::Unsent, tried)];
+    let mut report = nothing(alloc);
+    report.host = Listed::from_vec(Vec::from_array(alloc, runs)?);
+    Ok(report)
+}
+
+#[test]
+fn a_line_of_each_tried_block(rt: HostRuntime) -> Result<(), Fail> {
+    let text = b"host 0 request 01 = unsent\n\
+tried 7 unplugged\n\
+tried 6 emptied\n\
+tried 5 answered ack\n\
+tried 4 answered nack\n\
+tried 3 answered busy\n\
+tried 2 answered error\n\
+tried 1 unmovable 20 5\n\
+tried 0 pinned 20 5 1073762324\n\
+tried 12 no-target 20 5 1\n\
+tried 11 busy 65535 0 20485 0 7 18446744073709551615 4\n\
+plug 65535 ack\n\
+plug 10 nack\n\
+plug 9 busy\n\
+plug 8 error\n\
+plugged\n\
+end\n";
+    let report = one_unsent(rt.alloc(), all_tried(rt.alloc())?)?;
+    is_written(&rt, rt.alloc(), &report, text)
+}
+
+/// Two requests that unplug all blocks: the first finds two that are plugged, the second none.
+fn two_unplugs(alloc: Global) -> Result<Report, Fail>
+    ensures { IfOk result (λ report. HaveStates report) }
+{
+    let emptied = TriedResult::Emptied;
+    let two = tried(alloc, &[(1, emptied), (0, emptied)])?;
+    let none = tried(alloc, &[])?;
+    let runs = [
+        asked(0, &UNPLUG_ALL, HostResult::Answered(ACK), two),
+        asked(1, &UNPLUG_ALL, HostResult::Answered(ACK), none),
+    ];
+    let mut report = nothing(alloc);
+    report.host = Listed::from_vec(Vec::from_array(alloc, runs)?);
+    Ok(report)
+}
+
+#[test]
+fn tried_blocks_stand_behind_their_command(rt: HostRuntime) -> Result<(), Fail> {
+    let text =
+        b"host 0 request 020000000000000000000000000000000000000000000000 = 00000000000000000000\n\
+tried 1 emptied\n\
+tried 0 emptied\n\
+host 1 request 020000000000000000000000000000000000000000000000 = 00000000000000000000\n\
+plugged\n\
+end\n";
+    is_written(&rt, rt.alloc(), &two_unplugs(rt.alloc())?, text)
 }
 
 /// Adds an action with its notices, of which each is a key, the two numbers of a range, and what was told.
@@ -363,7 +483,9 @@ fn one_of_each(alloc: Global) -> Result<Report, Fail>
 {
     let actions = [SpaceAction::Isolate { block: BlockNo(6) }];
     let told = [(None, 0, 1, Told::Discard)];
-    let runs = [asked(255, &[9], Response::Ack { state: 2 })];
+    let answer = HostResult::Answered(Response::Ack { state: 2 });
+    let blocks = tried(alloc, &[(6, TriedResult::Emptied)])?;
+    let runs = [asked(255, &[9], answer, blocks)];
     let mut journal = Vec::new(alloc);
     push_action(alloc, &mut journal, DeviceAct::JoinRefused, &told)?;
     let mut pages = Vec::new(alloc);
@@ -375,7 +497,7 @@ fn one_of_each(alloc: Global) -> Result<Report, Fail>
     })?;
     Ok(Report {
         history: history(alloc, &[(Call::Free, Reply::Done)])?,
-        host: Listed::from_vec(Vec::from_slice(alloc, &runs)?),
+        host: Listed::from_vec(Vec::from_array(alloc, runs)?),
         space_journal: Listed::from_vec(Vec::from_slice(alloc, &actions)?),
         device_journal: Listed::from_vec(journal),
         plugged: Listed::from_vec(Vec::from_slice(alloc, &[BlockNo(6)])?),
@@ -387,6 +509,7 @@ fn one_of_each(alloc: Global) -> Result<Report, Fail>
 fn sections_in_order(rt: HostRuntime) -> Result<(), Fail> {
     let text = b"call 0 12 1048576 free 5 = ok\n\
 host 255 request 09 = 00000000000000000200\n\
+tried 6 emptied\n\
 space 0 isolate 6\n\
 device 0 join refused\n\
 notice 0 new discard 0 1\n\
