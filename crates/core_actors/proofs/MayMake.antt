@@ -1,33 +1,21 @@
--- The seat of an owner may make the owner's next action, and that of the driver the host's.
-use Rattle.std.proofs.Common.{◌≡◌, ℕ, ◌+◌, ◌≤◌, eqb, Bool, true, false, List, [], ◌∷◌, refl, sym, ap, ◌∙◌, subst, arith, Some, None, IsSome}
-use Rattle.std.specs.List.{AllByRecursion}
-use Rattle.std.proofs.lemmas.Bool.{eqb-false, false≢true}
+-- The seat of an owner may make the owner's next action.
+use Rattle.std.proofs.Common.{◌≡◌, ℕ, true, false, List, [], ◌∷◌, refl, sym, ap, ◌∙◌, subst, Some, None, IsSome}
 use Rattle.std.proofs.lemmas.Option.{get_or_from_slice_get}
 use Rattle.evac_model.specs.declared.names.FrameNo.{FrameNo}
 use Rattle.evac_model.specs.declared.names.Kind.{Kind}
 use Rattle.evac_model.specs.declared.names.PageNo.{PageNo}
 use Rattle.evac_model.specs.declared.call.Call.{Call}
-use Rattle.evac_model.specs.declared.host.HostCommand.{HostCommand}
-use Rattle.evac_model.specs.declared.host.HostCommand.TheVariants as commands
-use Rattle.evac_model.specs.DeviceAnswer.{request_in}
-use Rattle.evac_model.specs.HostCommands.{BlockRange, blocks_of}
-use Rattle.evac_model.specs.Numbers.{is_in}
-use Rattle.evac_model.specs.Scenarios.{IsHostCommand}
 use Rattle.evac_model.specs.SpaceJournal.{out_for}
-use Rattle.evac_model.proofs.Members.{is_in-range_with_len}
-use Rattle.evac_model.proofs.Ranges.{between_inside}
 use Rattle.core_state.specs.declared.step.MoveStep.{MoveStep}
 use Rattle.core_state.specs.declared.step.MoveStep.TheVariants as moves
 use Rattle.core_state.specs.declared.view.View.{View}
-use Rattle.core_state.specs.HandOvers.{IsAtRest}
 use Rattle.core_state.specs.Views.{Has, view_of, hand_frame, spent}
 use Rattle.machine.specs.declared.action.Action.{Action}
 use Rattle.machine.specs.declared.action.Action.TheVariants as actions
 use Rattle.machine.specs.declared.action.SpaceCall.TheVariants.{Lease, Return}
-use Rattle.machine.specs.World.{Setting, World, IsOwnerSeat, HasFrame, space_now, device_now, is_held}
+use Rattle.machine.specs.World.{Setting, World, IsOwnerSeat, HasFrame, space_now}
 use Rattle.machine.specs.Consistent.{IsConsistent}
-use Rattle.machine.specs.MayMake.{IsOutForHeld, MayPutOnline, MayAskDevice, MayMake}
-use Rattle.machine.proofs.NamedBlocks.{named_none}
+use Rattle.machine.specs.MayMake.{IsOutForHeld, MayMake}
 use Rattle.core_actors.specs.declared.place.Place.{Place}
 use Rattle.core_actors.specs.declared.place.Place.TheVariants.{Between, InCall}
 use Rattle.core_actors.specs.declared.place.CallPlace.{CallPlace}
@@ -37,7 +25,6 @@ use Rattle.core_actors.specs.FramesOut.{IsOutForCall}
 use Rattle.core_actors.specs.Owners.{OwnerState, action_in, owner_ended, next_action}
 use Rattle.core_actors.specs.Actions.{IsStorableAction}
 use Rattle.core_actors.specs.Fits.{as_found, IsZeroed, Fits}
-use Rattle.core_actors.specs.Hosts.{HostState, device_call, action_for, host_action, IsHostUnderWay}
 use Rattle.core_actors.proofs.Cases.{with_move}
 use Rattle.core_actors.proofs.Asks.{first_moves, no_block, no_device}
 use Rattle.core_actors.proofs.HeldCells.{held_page_is}
@@ -118,34 +105,3 @@ owner_may_make c seat w v script a k mine has fits storable out going =
     (subst (λ (u : View). Has w.snapshot.views seat u) is has)
     (subst (λ (u : View). Fits c.sizes c.opening script u a) is fits)
     storable out (next_action a) refl
-
--- ---- the host's next action
-
-module _ (c : Setting) (w : World) (rest : IsAtRest c.opening (view_of w.snapshot.views 0)) where
-  -- a request that doesn't unplug names no blocks
-  may_ask : (d : HostCommand) → IsHostCommand d → MayAskDevice c 0 w (device_call d)
-  may_ask (commands.Request bytes) h = record {
-    driver = refl;
-    rests = rest;
-    short = h.bytes.1;
-    held = λ block its. absurd (false≢true (sym (ap (λ (l : List ℕ). is_in block l) (named_none c.sizes (device_now c w).plugged (request_in bytes) h.built)) ∙ its));
-  }
-  may_ask commands.Config h = tt
-
-  module _ (r : BlockRange) (held_are : (b : ℕ) → is_in b (blocks_of r) ≡ is_held c w b) where
-    -- the first of the blocks to be put online is one that the driver holds
-    may_put : 1 ≤ r.count → MayPutOnline c 0 w (record { 0 = r.first })
-    may_put some = record {
-      driver = refl;
-      rests = rest;
-      held = sym (held_are r.first) ∙ (is_in-range_with_len r.first r.first r.count ∙ between_inside r.first (r.first + r.count) r.first (omega arith) (omega arith));
-    }
-
-    may_go : (left : List HostCommand) → AllByRecursion IsHostCommand left → (none : Bool) → eqb r.count 0 ≡ none → MayMake c 0 w (action_for left r)
-    may_go [] all none is = tt
-    may_go (d ∷ ds) all true is = rw is (may_ask d all.0)
-    may_go (d ∷ ds) all false is = rw is (may_put (let ne = eqb-false r.count 0 is in omega arith))
-
-pub host_may_make : (c : Setting) (w : World) (h : HostState) → h.sizes ≡ c.sizes → IsHostUnderWay h → AllByRecursion IsHostCommand h.left → IsAtRest c.opening (view_of w.snapshot.views 0)
-    → ((b : ℕ) → is_in b (blocks_of h.online) ≡ is_held c w b) → MayMake c 0 w (host_action h)
-host_may_make c w h sizes way all rest held_are = may_go c w rest h.online held_are h.left all (eqb h.online.count 0) refl

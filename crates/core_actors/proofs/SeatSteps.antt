@@ -1,6 +1,5 @@
 -- What an owner's seat has after each kind of action.
-use Rattle.std.proofs.Common.{◌≡◌, ℕ, suc, eqb, eq-eqb, ne_eqb, cond, not, ◌+◌, ◌<◌, ◌≤◌, ◌==◌, Bool, true, false, List, [], ◌∷◌, ◌++◌, filter, length, take, get_or, set, bit_or, refl, sym, ap, ◌∙◌, subst, arith, Option, Some, None, if◌then◌else◌, IsSomeAnd}
-use Rattle.std.specs.List.{count_by}
+use Rattle.std.proofs.Common.{◌≡◌, ℕ, suc, eq-eqb, ◌+◌, ◌<◌, ◌≤◌, Bool, true, false, List, [], ◌∷◌, ◌++◌, length, take, get_or, set, bit_or, refl, sym, ap, ◌∙◌, subst, arith, Option, Some, None, if◌then◌else◌, IsSomeAnd}
 use Rattle.std.proofs.lemmas.List.{length-take-le, length-replicate}
 use Rattle.std.proofs.Math.Seq.{take-suc}
 use Rattle.evac_model.specs.declared.names.FrameNo.{FrameNo}
@@ -19,7 +18,7 @@ use Rattle.core_state.specs.declared.step.Step.TheVariants as steps
 use Rattle.core_state.specs.declared.view.View.{View}
 use Rattle.core_state.specs.Views.{hand_frame, maps_to}
 use Rattle.core_state.specs.Words.{mapped_word, unmapped_word}
-use Rattle.core_state.specs.Steps.{nothing_known, newly_held, note, with_ticket, with_load, with_store, with_hand_store, with_unmarked, view_after}
+use Rattle.core_state.specs.Steps.{nothing_known, newly_held, note, with_ticket, with_load, with_store, with_hand_store, view_after}
 use Rattle.core_state.specs.MoveSteps.{held_after_map, held_after_unmap, hand_after_unmap, let_out, view_after_move}
 use Rattle.core_state.specs.HandOvers.{hand_without, hand_with}
 use Rattle.core_state.proofs.EntryWords.{same_flags-take}
@@ -28,36 +27,11 @@ use Rattle.machine.proofs.OneFrame.{within, hand_without_one, hand_with_one}
 use Rattle.core_actors.specs.CallSteps.{first_cell}
 use Rattle.core_actors.specs.Places.{frame_in}
 use Rattle.core_actors.specs.Fits.{known_from, PageHeld, SeatHas, just_frame, unmarked_by, zeroed, as_found, with_cells, IsHeldAs, IsZeroed, IsSeatWith}
+use Rattle.core_actors.proofs.Unmarked.{unmarked_now, marked_now, more_unmarked}
 use Rattle.core_actors.proofs.Known.{known_from-push, known_from-none, nothing_there}
 use Rattle.core_actors.proofs.HeldCells.{maps_here}
 use Rattle.core_actors.proofs.HandSteps.{has_set, has_set_none, store_elsewhere, hand_as, zero_more}
 use Rattle.core_actors.proofs.HasAt.{drawn}
-
--- ---- the frames that are unmarked
-
-abbrev stored_in : FrameNo → List FrameNo → List FrameNo
-stored_in frame l = if count_by (λ x. x.0 == frame.0) l == 0 then l ++ frame ∷ [] else l
-
-stored_again : (frame : FrameNo) (none : Bool) → stored_in frame (if none then [] else frame ∷ []) ≡ frame ∷ []
-stored_again frame true = refl
-stored_again frame false =
-    let e : eqb frame.0 frame.0 ≡ true = eq-eqb _ _ refl in
-    ap (λ (b : Bool). if 0 + cond b 1 0 == 0 then frame ∷ frame ∷ [] else frame ∷ []) e
-
-marked_in : (frame : FrameNo) (none : Bool) → filter (λ (x : FrameNo). not (x.0 == frame.0)) (if none then [] else frame ∷ []) ≡ []
-marked_in frame true = refl
-marked_in frame false =
-    let e : eqb frame.0 frame.0 ≡ true = eq-eqb _ _ refl in
-    ap (λ (b : Bool). cond (not b) (frame ∷ []) []) e
-
-unmarked_now : (v : View) (frame : FrameNo) (n : ℕ) → v.unmarked ≡ unmarked_by n frame → with_unmarked v frame ≡ frame ∷ []
-unmarked_now v frame n e = ap (λ (l : List FrameNo). stored_in frame l) e ∙ stored_again frame (n == 0)
-
-marked_now : (v : View) (frame : FrameNo) (n : ℕ) → v.unmarked ≡ unmarked_by n frame → filter (λ (x : FrameNo). not (x.0 == frame.0)) v.unmarked ≡ []
-marked_now v frame n e = ap (λ (l : List FrameNo). filter (λ (x : FrameNo). not (x.0 == frame.0)) l) e ∙ marked_in frame (n == 0)
-
-more_unmarked : (n : ℕ) (frame : FrameNo) → frame ∷ [] ≡ unmarked_by (n + 1) frame
-more_unmarked n frame = let e : eqb (n + 1) 0 ≡ false = ne_eqb (n + 1) 0 (λ z. omega arith) in sym (ap (λ (b : Bool). if b then [] else frame ∷ []) e)
 
 -- ---- the page that is held
 

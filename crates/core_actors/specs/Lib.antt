@@ -8,4 +8,10 @@ pub mod Counts
 pub mod Fits
 pub mod OwnerInside
 pub mod Hosts
+pub mod HostHears
+pub mod HostSeat
+pub mod HostSpace
+pub mod HostDid
+pub mod HostKept
+pub mod HostCounts
 pub mod HostInside

@@ -4,13 +4,15 @@ ghost use Rattle.std.specs.Prelude.{◌≡◌, ℕ, ◌+◌, ◌*◌, ◌<◌, �
 ghost use Rattle.std.specs.List.{AllByRecursion, enumerate_from};
 ghost use Rattle.evac_model.specs.declared.call.Call.{Call};
 ghost use Rattle.evac_model.specs.declared.host.HostCommand.{HostCommand};
+ghost use Rattle.evac_model.specs.declared.host.HostRun.{HostRun};
 ghost use Rattle.evac_model.specs.declared.names.FrameNo.{FrameNo};
 ghost use Rattle.evac_model.specs.declared.names.Kind.{Kind};
 ghost use Rattle.evac_model.specs.declared.names.PageNo.{PageNo};
-ghost use Rattle.evac_model.specs.Geometry.{Sizes};
-ghost use Rattle.evac_model.specs.HostCommands.{blocks_of};
-ghost use Rattle.evac_model.specs.Numbers.{is_in};
-ghost use Rattle.evac_model.specs.Scenarios.{IsHostCommand};
+ghost use Rattle.evac_model.specs.declared.scenario.StartPage.{StartPage};
+ghost use Rattle.evac_model.specs.DeviceAnswer.{device_at_start};
+ghost use Rattle.evac_model.specs.Geometry.{Sizes, frame_count};
+ghost use Rattle.evac_model.specs.Numbers.{IsRisingBelow};
+ghost use Rattle.evac_model.specs.Pairing.{actions_of};
 ghost use Rattle.evac_model.specs.Scripts.{numbered_call};
 ghost use Rattle.core_state.specs.declared.hand.HandFrame.{HandFrame};
 ghost use Rattle.core_state.specs.declared.keeper.Keeper.{Keeper};
@@ -29,10 +31,13 @@ ghost use Rattle.core_state.specs.HandOvers.{IsAtRest, MayHandOver, hand_without
 ghost use Rattle.machine.specs.declared.action.Action.{Action};
 ghost use Rattle.machine.specs.declared.action.Heard.{Heard};
 ghost use Rattle.machine.specs.declared.action.SpaceCall.{SpaceCall};
-ghost use Rattle.machine.specs.Consistent.{IsConsistent};
-ghost use Rattle.machine.specs.Made.{heard_by};
+ghost use Rattle.host_work.specs.Commands.{AreDoneBy};
+ghost use Rattle.host_work.specs.Evacuated.{by_tale};
+ghost use Rattle.machine.specs.Consistent.{IsSetting, IsConsistent};
+ghost use Rattle.machine.specs.Made.{Made, made, heard_by};
 ghost use Rattle.machine.specs.MayMake.{MayMake};
-ghost use Rattle.machine.specs.World.{Setting, World, IsOwnerSeat, HasFrame, space_now, is_held};
+ghost use Rattle.machine.specs.Start.{MayStart, setting_at_start, world_at_start};
+ghost use Rattle.machine.specs.World.{Setting, World, IsOwnerSeat, HasFrame, space_now, device_now};
 ghost use Rattle.core_actors.specs.declared.action.LeaseSeen.{LeaseSeen};
 ghost use Rattle.core_actors.specs.CallRuns.{made_hearing, after_hearing, before_release, calls_heard, script_actions};
 ghost use Rattle.core_actors.specs.CallSteps.{IsCallOf, call_actions};
@@ -41,7 +46,12 @@ ghost use Rattle.core_actors.specs.Actions.{ends_with_next, IsStorable, IsStorab
 ghost use Rattle.core_actors.specs.Counts.{actions_left, IsUnderWay, FindsTaken};
 ghost use Rattle.core_actors.specs.Fits.{Fits};
 ghost use Rattle.core_actors.specs.FramesOut.{IsOutForCall};
-ghost use Rattle.core_actors.specs.Hosts.{HostState, host_at_start, host_ended, host_action, host_after, host_actions_left, IsHostUnderWay};
+ghost use Rattle.core_actors.specs.Hosts.{HostState, host_at_start, host_ended, host_action};
+ghost use Rattle.core_actors.specs.HostHears.{host_after, line_after};
+ghost use Rattle.core_actors.specs.HostSpace.{IsShort};
+ghost use Rattle.core_actors.specs.HostDid.{run_list};
+ghost use Rattle.core_actors.specs.HostKept.{HostKept};
+ghost use Rattle.core_actors.specs.HostCounts.{command_most, host_actions_left};
 ghost use Rattle.core_actors.specs.Places.{frame_owed};
 
 /// From the start of a call an owner makes exactly the actions of the call's list, one after another, whatever it
@@ -120,23 +130,42 @@ pub fn ends_are_known_before_the_last_action()
     ensures action { (a : OwnerState) (heard : Heard) → owner_ended (owner_after a heard) ≡ ends_with_next a }
 {}
 
-/// A host is under way at the start, and after each of its actions, whatever that gives: blocks are to be put
-/// online just where its command has a result, and they are managed blocks.
-pub fn hosts_stay_under_way()
-    ensures start { (s : Sizes) (commands : List HostCommand) → IsHostUnderWay (host_at_start s commands) }
-    ensures action { (h : HostState) (heard : Heard) → IsHostUnderWay h → IsHostUnderWay (host_after h heard) }
+/// A host is as the start of its commands has it in a machine that may start so, where each request has at most 64 bytes.
+pub fn hosts_are_kept_at_the_start()
+    ensures { (s : Sizes) (online : Kind) (start : List StartPage) (budgets fails : List ℕ) (commands : List HostCommand) → MayStart s online start budgets → AllByRecursion IsShort commands → HostKept (setting_at_start s online start budgets fails) (world_at_start s start budgets) [] (host_at_start s (device_at_start s).plugged commands) }
 {}
 
-/// The driver's seat may make the next action of a host, where it is at rest, the commands are such as a scenario has,
-/// and the blocks that are still to be put online are exactly those that the driver holds.
+/// The driver's seat may make the next action of a host that hasn't ended.
 pub fn hosts_make_allowed_actions()
-    ensures { (c : Setting) (w : World) (h : HostState) → h.sizes ≡ c.sizes → IsHostUnderWay h → AllByRecursion IsHostCommand h.left → IsAtRest c.opening (view_of w.snapshot.views 0) → ((b : ℕ) → is_in b (blocks_of h.online) ≡ is_held c w b) → MayMake c 0 w (host_action h) }
+    ensures { (c : Setting) (w : World) (runs : List HostRun) (h : HostState) → IsSetting c → IsConsistent c w → HostKept c w runs h → host_ended h ≡ false → MayMake c 0 w (host_action h) }
 {}
 
-/// A host makes at most so many actions as it has commands, times the managed blocks and one more. Each
-/// action leaves fewer. None are left exactly where the host has ended.
+/// Behind its next action, whatever that gives, a host has done what the lines of its ended commands say, and a part of the command
+/// under way; its seat, the frame space and the device are as its place has them.
+pub fn hosts_do_their_commands()
+    ensures { (c : Setting) (w : World) (runs : List HostRun) (h : HostState) → IsSetting c → IsConsistent c w → HostKept c w runs h → host_ended h ≡ false
+        → (let x : Made = made c 0 w (host_action h) in let plugged : List ℕ = (device_now c x.world).plugged in
+        HostKept c x.world (runs ++ run_list h.left (line_after plugged h x.heard)) (host_after plugged h x.heard)) }
+{}
+
+/// Whatever an owner does, a host stays as it is.
+pub fn owners_leave_hosts_alone()
+    ensures { (c : Setting) (w : World) (runs : List HostRun) (h : HostState) (seat : ℕ) (action : Action) → IsSetting c → IsConsistent c w → IsOwnerSeat c seat → MayMake c seat w action → HostKept c w runs h → HostKept c (made c seat w action).world runs h }
+{}
+
+/// A host that has ended did all that the lines of its commands say, to the frame space and to the device, and the driver has no
+/// frame in hand.
+pub fn ended_hosts_did_their_commands()
+    ensures did { (c : Setting) (w : World) (runs : List HostRun) (h : HostState) → HostKept c w runs h → host_ended h ≡ true → AreDoneBy (by_tale c.sizes) [] c.sizes (device_at_start c.sizes) runs (actions_of 0 w.space) w.device }
+    ensures hands { (c : Setting) (w : World) (runs : List HostRun) (h : HostState) (frame : ℕ) → HostKept c w runs h → host_ended h ≡ true → ¬ HasFrame w 0 frame }
+{}
+
+/// A host makes at most so many actions as each of its commands needs where it empties all blocks, each in five rounds that find all
+/// frames out. Each action leaves fewer. None are left exactly where the host has ended.
 pub fn hosts_end_after_their_actions()
-    ensures most { (s : Sizes) (commands : List HostCommand) → host_actions_left (host_at_start s commands) ≡ length commands * (s.managed + 1) }
-    ensures fewer { (h : HostState) (heard : Heard) → IsHostUnderWay h → host_ended h ≡ false → host_actions_left (host_after h heard) < host_actions_left h }
-    ensures ended { (h : HostState) → IsHostUnderWay h → (host_actions_left h ≡ 0) ↔ (host_ended h ≡ true) }
+    ensures most { (s : Sizes) (plugged : List ℕ) (commands : List HostCommand) → IsRisingBelow s.managed plugged → host_actions_left (host_at_start s plugged commands) ≤ length commands * command_most s }
+    ensures command { (s : Sizes) → command_most s ≤ frame_count s * (11 * s.cells + 36) + 9 * s.managed + 4 }
+    ensures fewer { (c : Setting) (w : World) (runs : List HostRun) (h : HostState) → IsSetting c → IsConsistent c w → HostKept c w runs h → host_ended h ≡ false
+        → (let x : Made = made c 0 w (host_action h) in host_actions_left (host_after (device_now c x.world).plugged h x.heard) < host_actions_left h) }
+    ensures ended { (c : Setting) (w : World) (runs : List HostRun) (h : HostState) → HostKept c w runs h → (host_actions_left h ≡ 0) ↔ (host_ended h ≡ true) }
 {}

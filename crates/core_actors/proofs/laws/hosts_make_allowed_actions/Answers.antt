@@ -1,4 +1,4 @@
-use Rattle.core_actors.proofs.MayMake.{host_may_make}
+use Rattle.core_actors.proofs.HostMay.{host_may_make}
 use Rattle.core_actors.proofs.laws.hosts_make_allowed_actions.Goals as goal
 
 pub returns : goal.returns

@@ -1,6 +1,7 @@
 use Rattle.std.proofs.Common.{ap, ◌∙◌}
-use Rattle.core_actors.specs.Hosts.{HostView, host_ended}
-use Rattle.core_actors.proofs.HostPlaces.{ended_here}
+use Rattle.core_actors.specs.HostInside.{HostView}
+use Rattle.core_actors.specs.Hosts.{host_ended}
+use Rattle.core_actors.proofs.HostInsides.{ended_here}
 use Rattle.core_actors.proofs.host.Host.has_ended.Goals as goal
 
 pub returns : goal.returns
