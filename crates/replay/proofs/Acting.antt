@@ -1,20 +1,21 @@
 -- The next action of an owner, and that of the host, may be made in a kept run.
-use Rattle.std.proofs.Common.{◌≡◌, ℕ, suc, ◌<◌, false, [], length, Some, subst, inl, refl, arith}
+use Rattle.std.proofs.Common.{◌≡◌, ℕ, suc, ◌<◌, false, [], length, Some, subst, arith}
 use Rattle.std.specs.List.{slice_get}
 use Rattle.std.proofs.lemmas.Option.{slice_get-get_or}
 use Rattle.evac_model.specs.declared.scenario.Scenario.{Scenario}
+use Rattle.evac_model.specs.HostCommands.{host_runs}
 use Rattle.evac_model.specs.ScenarioGrammar.{online_of}
 use Rattle.evac_model.specs.Scenarios.{IsRunnable}
 use Rattle.evac_model.specs.Scripts.{script_of}
 use Rattle.core_state.specs.declared.view.View.{View}
-use Rattle.core_state.specs.HandOvers.{IsAtRest}
 use Rattle.core_state.specs.Views.{Has, view_of}
 use Rattle.core_state.proofs.Lists.{within}
 use Rattle.core_state.proofs.Rooms.{seat_has}
 use Rattle.core_actors.specs.Fits.{Fits}
-use Rattle.core_actors.specs.Hosts.{host_action}
+use Rattle.core_actors.specs.Hosts.{host_ended, host_action}
 use Rattle.core_actors.specs.Owners.{OwnerState, owner_at_start, owner_ended, next_action}
-use Rattle.core_actors.proofs.MayMake.{owner_may_make, host_may_make}
+use Rattle.core_actors.proofs.HostMay.{host_may_make}
+use Rattle.core_actors.proofs.MayMake.{owner_may_make}
 use Rattle.machine.specs.Consistent.{IsSetting}
 use Rattle.machine.specs.MayMake.{MayMake}
 use Rattle.machine.specs.World.{IsOwnerSeat}
@@ -27,7 +28,7 @@ use Rattle.replay.proofs.Storable.{next_storable}
 
 -- the parts of a scenario's setting go together
 pub setting_fits : (s : Scenario) → IsRunnable s → IsSetting (setting s)
-setting_fits s r = subst IsSetting (setting_is s) (opened_set s.geometry (online_of s) s.start (budgets_of s.owners) (may_start s r))
+setting_fits s r = subst IsSetting (setting_is s) (opened_set s.geometry (online_of s) s.start (budgets_of s.owners) [] (may_start s r))
 
 -- ---- the seats
 
@@ -49,12 +50,6 @@ module _ (s : Scenario) (m : Running) (kept : IsKept s m) where
     pub owner_fits : (a.owner ≡ suc i) × Fits s.geometry (opening s) (script_of s.owners (suc i)) (owner_view m i) a × HaveNumbers a.left
     owner_fits = kept.seats.fits i a (owner_view m i) at owner_has
 
-  driver_rests : IsAtRest (opening s) (view_of m.world.snapshot.views 0)
-  driver_rests =
-      let driver = view_of m.world.snapshot.views 0 in
-      let has = seat_has m.world.snapshot.views 0 (let seats = kept.world.seats in omega arith) in
-      (kept.seats.others 0 driver has (inl refl)).rests
-
 -- ---- the next actions
 
 pub may_act : (s : Scenario) (m : Running) (i : ℕ) → IsRunnable s → IsKept s m → i < length m.owners → owner_ended (owner_of m.owners (suc i)) ≡ false
@@ -64,8 +59,7 @@ may_act s m i r kept below going =
     let at : slice_get m.owners i ≡ Some a = slice_get-get_or m.owners i (owner_at_start 0 0 []) below in
     let fits = owner_fits s m kept i a at in
     owner_may_make (setting s) (suc i) m.world (owner_view m i) (script_of s.owners (suc i)) a kept.world (owner_seat s m kept i below) (owner_has s m kept i a at) fits.1
-    (next_storable a fits.2) (λ frame has. kept.frames.owners i a frame at has) going
+    (next_storable a fits.2) (λ frame has. kept.frames i a frame at has) going
 
-pub host_may_act : (s : Scenario) (m : Running) → IsRunnable s → IsKept s m → MayMake (setting s) 0 m.world (host_action m.host)
-host_may_act s m r kept =
-    host_may_make (setting s) m.world m.host kept.host.sizes kept.host.under_way kept.host.commands (driver_rests s m kept) kept.host.held
+pub host_may_act : (s : Scenario) (m : Running) → IsRunnable s → IsKept s m → host_ended m.host ≡ false → MayMake (setting s) 0 m.world (host_action m.host)
+host_may_act s m r kept going = host_may_make (setting s) m.world (host_runs s.host m.lines) m.host (setting_fits s r) kept.world kept.host.kept going

@@ -1,16 +1,14 @@
 -- The actions that all owners and the host may still make: no turn raises them, and an action lowers them, but for
 -- a take that finds its page taken.
-use Rattle.std.proofs.Common.{◌≡◌, ◌⊎◌, ◌↔◌, ℕ, suc, ◌+◌, ◌<◌, ◌≤◌, true, false, List, [], ◌∷◌, length, refl, ap, ◌∙◌, arith, suc-mul, inl, inr, ⊎_elim, Option, None, Some, subst, sym}
+use Rattle.std.proofs.Common.{◌≡◌, ◌⊎◌, ◌↔◌, ℕ, suc, ◌+◌, ◌<◌, ◌≤◌, true, false, List, [], ◌∷◌, refl, ap, ◌∙◌, arith, inl, inr, ⊎_elim, Some, subst, sym}
 use Rattle.std.specs.List.{sum_by, slice_get}
 use native.Mathlib.Decide.{ℕ_discrete}
 use mathlib.Core.Logic.{dite}
 use Rattle.evac_model.specs.declared.scenario.Actor.{Actor}
 use Rattle.evac_model.specs.declared.scenario.Actor.TheVariants.{Owner, Host}
 use Rattle.evac_model.specs.declared.scenario.Scenario.{Scenario}
-use Rattle.evac_model.specs.declared.host.HostCommand.{HostCommand}
-use Rattle.evac_model.specs.declared.host.HostResult.{HostResult}
-use Rattle.evac_model.specs.Geometry.{Sizes}
-use Rattle.evac_model.specs.HostCommands.{BlockRange}
+use Rattle.evac_model.specs.HostCommands.{host_runs}
+use Rattle.evac_model.specs.Scenarios.{IsRunnable}
 use Rattle.evac_words.specs.Word.{taken_bit}
 use Rattle.core_state.specs.declared.step.Step.{Step}
 use Rattle.core_state.specs.declared.step.Step.TheVariants.{Take, Draw, Load, Store, Mark, Release}
@@ -21,17 +19,18 @@ use Rattle.machine.specs.declared.action.Heard.{Heard}
 use Rattle.machine.specs.declared.action.Heard.TheVariants.{Word}
 use Rattle.machine.specs.Made.{made}
 use Rattle.machine.specs.World.{Setting, World}
-use Rattle.core_actors.specs.Hosts.{HostState, host_ended, host_actions_left, IsHostUnderWay}
+use Rattle.core_actors.specs.HostCounts.{host_actions_left}
+use Rattle.core_actors.specs.Hosts.{host_ended}
 use Rattle.core_actors.specs.Places.{word_in}
 use Rattle.core_actors.specs.Owners.{OwnerState, owner_ended, next_action, owner_after}
 use Rattle.core_actors.specs.Counts.{actions_left, FindsTakenBy, FindsTaken}
-use Rattle.core_actors.proofs.HostCounts.{host_fewer}
+use Rattle.core_actors.proofs.HostCounts.{host_fewer, none_left}
 use Rattle.core_actors.proofs.Left.{actions_fewer, again}
 use Rattle.replay.specs.Running.{Running, after_turn, after_turns}
 use Rattle.replay.specs.Runs.{setting}
 use Rattle.replay.specs.Keeping.{IsKept}
-use Rattle.replay.proofs.Acting.{owner_fits}
-use Rattle.replay.proofs.Turns.{found_by, found_at, heard_at, host_hears, TurnOf, rests, acts, host_acts, turn_of, owners_after, host_stays, owners_stay, host_after_turn}
+use Rattle.replay.proofs.Acting.{setting_fits, owner_fits, host_may_act}
+use Rattle.replay.proofs.Turns.{found_by, found_at, heard_at, TurnOf, rests, acts, host_acts, turn_of, owners_after, host_stays, owners_stay, host_after_turn}
 
 abbrev pub owner_actions_left : List OwnerState → ℕ
 owner_actions_left owners = sum_by actions_left owners
@@ -39,24 +38,9 @@ owner_actions_left owners = sum_by actions_left owners
 abbrev pub all_actions_left : Running → ℕ
 all_actions_left m = owner_actions_left m.owners + host_actions_left m.host
 
--- ---- the host
-
-module _ (s : Sizes) (number : ℕ) (online : BlockRange) where
-  abbrev host_with : List HostCommand → Option HostResult → HostState
-  host_with left result = record { sizes = s; left = left; number = number; result = result; online = online }
-
-  abbrev EndsWithNone : List HostCommand → Option HostResult → Type 0
-  EndsWithNone left result = IsHostUnderWay (host_with left result) → (host_actions_left (host_with left result) ≡ 0) ↔ (host_ended (host_with left result) ≡ true)
-
-  ends_with_none : (left : List HostCommand) (result : Option HostResult) → EndsWithNone left result
-  ends_with_none [] None way = (λ none. refl, λ ended. dite (ℕ_discrete online.count 0) (λ zero. omega arith) (λ some. absurd (let going = way.some (omega arith) in cc)))
-  ends_with_none [] (Some given) way = absurd (let going = way.some (way.asked.0 refl) in cc)
-  ends_with_none (c ∷ cs) None way = (λ none. absurd (let many = suc-mul (length cs) (s.managed + 1) in omega arith), λ ended. absurd (cc))
-  ends_with_none (c ∷ cs) (Some given) way = (λ none. absurd (let some = way.asked.0 refl in omega arith), λ ended. absurd (cc))
-
 -- a host has no action left just where it has ended
-pub host_none_left : (h : HostState) → IsHostUnderWay h → (host_actions_left h ≡ 0) ↔ (host_ended h ≡ true)
-host_none_left h way = ends_with_none h.sizes h.number h.online h.left h.result way
+pub host_none_left : (s : Scenario) (m : Running) → IsKept s m → (host_actions_left m.host ≡ 0) ↔ (host_ended m.host ≡ true)
+host_none_left s m kept = none_left (setting s) m.world m.host kept.host.kept.tale kept.host.kept.space
 
 -- ---- takes that find their page taken
 
@@ -133,14 +117,15 @@ module _ (s : Scenario) (m : Running) (kept : IsKept s m) where
     action_never_raises = ⊎_elim action_keeps (λ free. let l = action_lowers free in omega arith) (finds_taken_or_not (next_action a) (found_at (setting s) m i a))
 
   -- an action of the host lowers them
-  pub host_lowers : host_ended m.host ≡ false → all_actions_left (after_turn (setting s) m Host) < all_actions_left m
-  host_lowers going =
+  pub host_lowers : IsRunnable s → host_ended m.host ≡ false → all_actions_left (after_turn (setting s) m Host) < all_actions_left m
+  host_lowers r going =
       let owners = ap owner_actions_left (owners_stay (setting s) m) in
       let host = ap host_actions_left (host_after_turn (setting s) m going) in
-      omega (arith, owners, host, host_fewer m.host (host_hears (setting s) m) kept.host.under_way going)
+      let fewer = host_fewer (setting s) m.world (host_runs s.host m.lines) m.host (setting_fits s r) kept.world kept.host.kept going (host_may_act s m r kept going) in
+      omega (arith, owners, host, fewer)
 
-  pub turn_never_raises : (actor : Actor) → all_actions_left (after_turn (setting s) m actor) ≤ all_actions_left m
-  turn_never_raises actor = by_kind (turn_of (setting s) m actor) where
+  pub turn_never_raises : IsRunnable s → (actor : Actor) → all_actions_left (after_turn (setting s) m actor) ≤ all_actions_left m
+  turn_never_raises r actor = by_kind (turn_of (setting s) m actor) where
     by_kind : TurnOf (setting s) m actor → all_actions_left (after_turn (setting s) m actor) ≤ all_actions_left m
     by_kind (rests e) = let same = ap all_actions_left e in omega arith
     by_kind (acts i a is at going) =
@@ -148,7 +133,7 @@ module _ (s : Scenario) (m : Running) (kept : IsKept s m) where
         omega (arith, same, action_never_raises i a at going)
     by_kind (host_acts is going) =
         let same = ap (λ (x : Actor). all_actions_left (after_turn (setting s) m x)) is in
-        omega (arith, same, host_lowers going)
+        omega (arith, same, host_lowers r going)
 
 -- ---- turns
 
@@ -161,7 +146,7 @@ module _ (s : Scenario) (keep : TurnsKeep s) where
   turns_keep m [] kept = kept
   turns_keep m (x ∷ xs) kept = turns_keep (after_turn (setting s) m x) xs (keep m x kept)
 
-  pub turns_never_raise : (m : Running) (xs : List Actor) → IsKept s m → all_actions_left (after_turns (setting s) m xs) ≤ all_actions_left m
-  turns_never_raise m [] kept = omega arith
-  turns_never_raise m (x ∷ xs) kept =
-      omega (arith, turns_never_raise (after_turn (setting s) m x) xs (keep m x kept), turn_never_raises s m kept x)
+  pub turns_never_raise : IsRunnable s → (m : Running) (xs : List Actor) → IsKept s m → all_actions_left (after_turns (setting s) m xs) ≤ all_actions_left m
+  turns_never_raise r m [] kept = omega arith
+  turns_never_raise r m (x ∷ xs) kept =
+      omega (arith, turns_never_raise r (after_turn (setting s) m x) xs (keep m x kept), turn_never_raises s m kept r x)

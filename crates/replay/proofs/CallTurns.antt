@@ -31,7 +31,7 @@ use Rattle.machine.specs.MayMake.{MayMake}
 use Rattle.machine.specs.World.{World, free_seat, space_now}
 use Rattle.machine.proofs.HandedFrames.{giver_after, receiver_after}
 use Rattle.machine.proofs.SpaceNow.{space_is}
-use Rattle.core_actors.specs.Hosts.{host_action}
+use Rattle.core_actors.specs.Hosts.{host_ended, host_action}
 use Rattle.core_actors.specs.Owners.{OwnerState, owner_ended, next_action, owner_after}
 use Rattle.core_actors.proofs.Asks.{owners_action}
 use Rattle.replay.specs.CallsMade.{AreOwnersCallsMade, AreCallsMade}
@@ -168,9 +168,9 @@ module _ (s : Scenario) (m : Running) (r : IsRunnable s) (kept : IsKept s m) whe
           nobody_else s m r kept (suc i) x may who (λ e. omega arith) (omega arith);
     }
 
-  host_calls : AreCallsMade s (host_acted m (made (setting s) 0 m.world (host_action m.host)))
-  host_calls =
-      let may = host_may_act s m r kept in
+  host_calls : host_ended m.host ≡ false → AreCallsMade s (host_acted (setting s) m (made (setting s) 0 m.world (host_action m.host)))
+  host_calls going =
+      let may = host_may_act s m r kept going in
       record {
         owners = λ j c u at has.
             let ne : suc j ≢ 0 = λ e. omega arith in
@@ -181,4 +181,4 @@ module _ (s : Scenario) (m : Running) (r : IsRunnable s) (kept : IsKept s m) whe
 pub calls_made : (s : Scenario) (m : Running) (actor : Actor) → IsRunnable s → IsKept s m → AreCallsMade s (after_turn (setting s) m actor)
 calls_made s m actor r kept = turn_cases (setting s) m (AreCallsMade s) kept.calls
     (λ i below going. owner_calls s m r kept i below going)
-    (λ going. host_calls s m r kept) actor
+    (λ going. host_calls s m r kept going) actor

@@ -78,7 +78,7 @@ module _ (s : Scenario) (m : Running) (k : IsKept s m) (ended : AllEnded m.owner
       let x = entry_with-has j views e (found_at j e at) in
       ⊎_elim
       (λ own. of_seat s m own.place x.seat x.view x.place e own.is x.has x.at own.ended)
-      (λ idle. absurd (none-some e (sym (ap (λ (l : List Entry). slice_get l x.place) idle.entries) ∙ x.at)))
+      (λ none. absurd (none-some e (sym (ap (λ (l : List Entry). slice_get l x.place) none) ∙ x.at)))
       (each_seat s m k ended x.seat x.view x.has)
 
   -- whoever has no script makes no call

@@ -3,7 +3,6 @@
 use Rattle.std.proofs.Common.{◌≡◌, ℕ, zero, suc, ◌+◌, ◌<◌, ◌≤◌, Bool, true, false, ◌&&◌, ◌||◌, not, nat_lt, List, [], ◌∷◌, length, length-take, map, drop, is_some, refl, sym, ap, ◌∙◌, subst, arith, Option, Some, None, IsSome}
 use Rattle.std.specs.Option.{option_map}
 use Rattle.std.proofs.Math.Bool.{or-false}
-use Rattle.std.proofs.lemmas.Bool.{false≢true}
 use Rattle.std.proofs.lemmas.Bool.Decides.{nat_tests}
 use Rattle.std.proofs.lemmas.List.{get_or_past}
 use Rattle.std.proofs.lemmas.Option.{none-some, same_Some, slice_get-get_or}
@@ -47,7 +46,7 @@ use Rattle.replay.specs.Running.{Running, owner_of}
 use Rattle.replay.specs.Runs.{opening, setting, HaveEnded}
 use Rattle.report.specs.ReportOf.{block_list}
 use Rattle.replay.proofs.Acting.{setting_fits}
-use Rattle.replay.proofs.EndHost.{none_held_at_end}
+use Rattle.replay.proofs.EndHost.{none_held_at_end, none_in_hand_at_end}
 
 -- ---- an owner that has ended
 
@@ -108,12 +107,6 @@ module _ (s : Scenario) (m : Running) (r : IsRunnable s) (kept : IsKept s m) (en
         let off : is_in w.0 (space_now (setting s) m.world).offline ≡ true = kept.world.offline w.0 ∙ ap (λ (t : Bool). t || is_held (setting s) m.world w.0) w.1 in
         none-some x (sym (offline_not_out (setting s) m.world (setting_fits s r) kept.world frame (frame_in_from s.geometry (space_now (setting s) m.world).offline w.0 frame off w.2)) ∙ out)
 
-    -- the driver holds no block
-    not_drivers : ¬ HasFrame m.world 0 frame
-    not_drivers has =
-        let of = kept.frames.driver frame has in
-        false≢true (sym (none_held_at_end s m kept.host ended.host of.block) ∙ of.held)
-
     in_owners_hand : (i : ℕ) → i < length m.owners → hand_frame (view_of m.world.snapshot.views (suc i)) frame ≡ None
     in_owners_hand i lt =
         let at = slice_get-get_or m.owners i (owner_at_start 0 0 []) lt in
@@ -122,7 +115,7 @@ module _ (s : Scenario) (m : Running) (r : IsRunnable s) (kept : IsKept s m) (en
         ended_hand (opening s).cells (owner_of m.owners (suc i)) (view_of m.world.snapshot.views (suc i)) frame (ended.owners i (owner_of m.owners (suc i)) at) fits.1.has
 
     in_hand_at : (seat : ℕ) → seat < length s.owners + 4 → hand_frame (view_of m.world.snapshot.views seat) frame ≡ None
-    in_hand_at zero lt = empty_place _ not_drivers
+    in_hand_at zero lt = empty_place _ (none_in_hand_at_end s m kept.host ended.host frame)
     in_hand_at (suc i) lt = dite (dec_lt i (length s.owners))
         (λ owner. in_owners_hand i (let n = kept.seats.owners in omega arith))
         (λ past. dite (ℕ_discrete i (length s.owners))

@@ -1,5 +1,5 @@
 -- Owners that have ended: what is left of them, and what their seats have.
-use Rattle.std.proofs.Common.{◌≡◌, ◌⊎◌, ℕ, zero, suc, ◌<◌, ◌&&◌, true, List, [], ◌∷◌, ◌++◌, length, map, append-nil, refl, sym, ap, ◌∙◌, subst, inl, inr, ⊎_elim, arith, Option, None, Some}
+use Rattle.std.proofs.Common.{◌≡◌, ◌⊎◌, ℕ, zero, suc, ◌<◌, ◌&&◌, true, List, [], ◌∷◌, ◌++◌, length, map, append-nil, refl, sym, ap, ◌∙◌, subst, inl, inr, arith, Option, None, Some}
 use Rattle.std.specs.List.{slice_get, enumerate_from, AllByRecursion}
 use Rattle.std.proofs.lemmas.Bool.{false≢true}
 use mathlib.Core.Logic.{dite}
@@ -19,9 +19,10 @@ use Rattle.core_actors.specs.declared.place.Place.{Place}
 use Rattle.core_actors.specs.declared.place.Place.TheVariants.{Between, InCall}
 use Rattle.core_actors.specs.Fits.{Holds, has_at, Fits}
 use Rattle.core_actors.specs.Places.{frame_owed}
-use Rattle.replay.specs.Keeping.{IsIdle, IsKept}
+use Rattle.replay.specs.Keeping.{IsKept}
 use Rattle.replay.specs.Running.{Running}
-use Rattle.replay.specs.Runs.{opening, AllEnded}
+use Rattle.replay.specs.Runs.{opening, AllEnded, HaveEnded}
+use Rattle.replay.proofs.DriverSeat.{driver_entries, driver_lets_go}
 use Rattle.replay.proofs.Members.{there}
 
 -- ---- an owner that has ended
@@ -92,12 +93,15 @@ module _ (s : Scenario) (m : Running) (k : IsKept s m) (ended : AllEnded m.owner
       }
 
   -- a seat is an owner's, or makes no calls
-  pub each_seat : (i : ℕ) (v : View) → Has m.world.snapshot.views i v → IsOwners s m i v ⊎ IsIdle (opening s) v
-  each_seat zero v has = inr (k.seats.others zero v has (inl refl))
+  pub each_seat : (i : ℕ) (v : View) → Has m.world.snapshot.views i v → IsOwners s m i v ⊎ (v.entries ≡ [])
+  each_seat zero v has = inr (driver_entries s m k.host v has)
   each_seat (suc i) v has = dite (dec_le (suc i) (length s.owners))
       (λ le. inl (record { place = i; is = refl; ended = owners_seat i v (omega arith) has }))
-      (λ gt. inr (k.seats.others (suc i) v has (inr (omega arith))))
+      (λ gt. inr (k.seats.others (suc i) v has (omega arith)).entries)
 
-  -- no page is held
-  pub let_go : AllLetGo m.world.snapshot.views
-  let_go i v has = ⊎_elim (λ own. own.ended.held) (λ idle. idle.rests.holds_none) (each_seat i v has)
+-- where the host has ended, too, no page is held
+pub let_go : (s : Scenario) (m : Running) → IsKept s m → HaveEnded m → AllLetGo m.world.snapshot.views
+let_go s m k ended zero v has = driver_lets_go s m k.host v has ended.host
+let_go s m k ended (suc i) v has = dite (dec_le (suc i) (length s.owners))
+    (λ le. (owners_seat s m k ended.owners i v (omega arith) has).held)
+    (λ gt. (k.seats.others (suc i) v has (omega arith)).rests.holds_none)

@@ -7,19 +7,23 @@ use Rattle.evac_model.specs.declared.call.Call.{Call}
 use Rattle.evac_model.specs.declared.scenario.Actor.{Actor}
 use Rattle.evac_model.specs.declared.scenario.Scenario.{Scenario}
 use Rattle.std.proofs.Math.Nat.{mul-le-mul}
-use Rattle.evac_model.specs.Geometry.{Sizes, frame_count}
+use Rattle.evac_model.specs.DeviceAnswer.{device_at_start}
+use Rattle.evac_model.specs.Geometry.{Sizes}
 use Rattle.evac_model.specs.Scenarios.{IsRunnable}
 use Rattle.evac_model.specs.ScenarioGrammar.{call_count}
 use Rattle.core_state.proofs.Lists.{member_le_sum_by}
+use Rattle.machine.proofs.PlugAnswers.{plugged_rising}
 use Rattle.core_actors.specs.CallSteps.{IsCallOf}
 use Rattle.core_actors.specs.Owners.{OwnerState, owner_at_start}
 use Rattle.core_actors.specs.Counts.{actions_left}
+use Rattle.core_actors.specs.HostCounts.{command_most}
+use Rattle.core_actors.proofs.HostCounts.{host_most, command_cost}
 use Rattle.core_actors.proofs.Left.{few_at_start, none_left}
 use Rattle.replay.specs.Running.{Running, after_turn, after_turns}
 use Rattle.replay.specs.Schedule.{actors, named_turns, drawn_turns, rounds, schedule, round_count}
 use Rattle.replay.specs.Runs.{setting, owners_from, running_at_start, AllEnded, HaveEnded}
 use Rattle.replay.specs.Keeping.{IsKept}
-use Rattle.replay.proofs.Acting.{owner_fits}
+use Rattle.replay.proofs.Acting.{setting_fits, owner_fits}
 use Rattle.replay.proofs.ActionsLeft.{owner_actions_left, all_actions_left, host_none_left, TurnsKeep, turns_keep, turns_never_raise}
 use Rattle.replay.proofs.Rounds.{rounds_end}
 use Rattle.replay.proofs.Turns.{after_turns-append}
@@ -47,24 +51,24 @@ owners_ended_at s m kept none i a at =
 ended_at : (s : Scenario) (m : Running) → IsKept s m → all_actions_left m ≡ 0 → HaveEnded m
 ended_at s m kept none = record {
   owners = owners_ended_at s m kept (omega arith);
-  host = (host_none_left m.host kept.host.under_way).0 (omega arith);
+  host = (host_none_left s m kept).0 (omega arith);
 }
 
 -- the most actions that the calls and the commands of a scenario have
 abbrev most_of_all : Scenario → ℕ
-most_of_all s = call_count s.owners * (s.geometry.cells + 6) + length s.host * (s.geometry.managed + 1)
+most_of_all s = call_count s.owners * (s.geometry.cells + 6) + length s.host * command_most s.geometry
 
 bound_is_enough : (s : Scenario) → most_of_all s ≤ round_count s
 bound_is_enough s =
     let same : length s.host ≤ length s.host = omega arith in
-    let more : s.geometry.managed + 1 ≤ frame_count s.geometry * (11 * s.geometry.cells + 36) + 9 * s.geometry.managed + 4 = omega arith in
-    omega (arith, mul-le-mul same more)
+    omega (arith, mul-le-mul same (command_cost s.geometry))
 
-module _ (s : Scenario) (keep : TurnsKeep s) (start : IsKept s (running_at_start s)) where
+module _ (s : Scenario) (run : IsRunnable s) (keep : TurnsKeep s) (start : IsKept s (running_at_start s)) where
   actions_at_start : all_actions_left (running_at_start s) ≤ most_of_all s
   actions_at_start =
       let owners = few_from s.geometry 1 s.owners (λ i a at. ((owner_fits s (running_at_start s) start i a at).1).belongs.calls) in
-      omega arith
+      let host = host_most s.geometry (device_at_start s.geometry).plugged s.host (plugged_rising (setting s) (running_at_start s).world (setting_fits s run) start.world) in
+      omega (arith, owners, host)
 
   ends_within : (n : ℕ) → most_of_all s ≤ n → all_actions_left (after_turns (setting s) (running_at_start s) (schedule s n)) ≡ 0
   ends_within n enough =
@@ -73,11 +77,11 @@ module _ (s : Scenario) (keep : TurnsKeep s) (start : IsKept s (running_at_start
       let m : Running = after_turns (setting s) (running_at_start s) (named_turns s.named) in
       let m2 : Running = after_turns (setting s) m drawn in
       let kept = turns_keep s keep (running_at_start s) (named_turns s.named) start in
-      let few = turns_never_raise s keep (running_at_start s) (named_turns s.named) start in
-      let fewer = turns_never_raise s keep m drawn kept in
+      let few = turns_never_raise s keep run (running_at_start s) (named_turns s.named) start in
+      let fewer = turns_never_raise s keep run m drawn kept in
       ap all_actions_left (after_turns-append (setting s) (running_at_start s) (named_turns s.named ++ drawn) (rounds all n)
       ∙ ap (λ (w : Running). after_turns (setting s) w (rounds all n)) (after_turns-append (setting s) (running_at_start s) (named_turns s.named) drawn))
-      ∙ rounds_end s keep n m2 (turns_keep s keep m drawn kept) (omega (arith, few, fewer, actions_at_start, enough))
+      ∙ rounds_end s run keep n m2 (turns_keep s keep m drawn kept) (omega (arith, few, fewer, actions_at_start, enough))
 
   all_end_within : (n : ℕ) → most_of_all s ≤ n → HaveEnded (after_turns (setting s) (running_at_start s) (schedule s n))
   all_end_within n enough =
@@ -92,4 +96,4 @@ TurnsAreKept = (s : Scenario) (m : Running) (actor : Actor) → IsRunnable s →
 
 pub runs_end_if_kept : StartsAreKept → TurnsAreKept → (s : Scenario) → IsRunnable s → HaveEnded (after_turns (setting s) (running_at_start s) (schedule s (round_count s)))
 runs_end_if_kept starts turns s run =
-    all_end_within s (λ m actor kept. turns s m actor run kept) (starts s run) (round_count s) (bound_is_enough s)
+    all_end_within s run (λ m actor kept. turns s m actor run kept) (starts s run) (round_count s) (bound_is_enough s)

@@ -22,12 +22,17 @@ use Rattle.replay.specs.Keeping.{AreRising, IsInOrder}
 
 -- ---- a view without entries
 
-pub none_in_order : (v : View) → v.entries ≡ [] → v.held ≡ None → IsInOrder v
-none_in_order v none free = record {
+-- one that has drawn no ticket
+pub undrawn_in_order : (v : View) → v.entries ≡ [] → ((h : Held) (t : ℕ) → v.held ≡ Some h → ¬ (h.ticket ≡ Some t)) → IsInOrder v
+undrawn_in_order v none undrawn = record {
   rising = subst (λ (es : List Entry). AreRising es) (sym none) tt;
   seen = subst (λ (es : List Entry). AllByRecursion (λ e. e.ticket < v.seen) es) (sym none) tt;
-  drawn = λ h t is ticket. absurd (none-some h (sym free ∙ is));
+  drawn = λ h t is ticket. absurd (undrawn h t is ticket);
 }
+
+-- one that holds no page
+pub none_in_order : (v : View) → v.entries ≡ [] → v.held ≡ None → IsInOrder v
+none_in_order v none free = undrawn_in_order v none (λ h t is ticket. none-some h (sym free ∙ is))
 
 -- ---- one more entry, behind all others
 

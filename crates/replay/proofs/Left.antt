@@ -1,4 +1,4 @@
--- What a run leaves whose owners have all ended.
+-- What a run leaves whose owners and host have ended.
 use Rattle.std.proofs.Common.{◌≡◌, ℕ, ◌<◌, cond, eqb, Bool, true, false, List, refl, ap, sym, subst, arith, Option, Some, IsSome}
 use Rattle.std.specs.List.{slice_get, count_by}
 use Rattle.std.proofs.lemmas.Bool.{eqb-true}
@@ -23,7 +23,7 @@ use Rattle.core_state.proofs.Frames.{maps_to-one}
 use Rattle.core_state.proofs.Lists.{sum_by_member, member_le_sum_by}
 use Rattle.replay.specs.Keeping.{IsKept}
 use Rattle.replay.specs.Running.{Running}
-use Rattle.replay.specs.Runs.{opening, AllEnded}
+use Rattle.replay.specs.Runs.{opening, HaveEnded}
 use Rattle.replay.specs.Shown.{MapsInside}
 use Rattle.replay.proofs.EndedOwners.{let_go}
 
@@ -49,7 +49,7 @@ has_entry views t go once =
     let e = has_ticket t r.1.entries (omega arith) in
     some_there (entry_with t views) e.1 (entry_at-found t views r.0 r.1 e.0 e.1 r.2 e.2 e.3 (omega arith))
 
-pub each_ticket : (s : Scenario) (m : Running) → IsKept s m → AllEnded m.owners → (t : ℕ) → t < next_ticket_of m.world.snapshot.words → IsSome (entry_with t m.world.snapshot.views)
+pub each_ticket : (s : Scenario) (m : Running) → IsKept s m → HaveEnded m → (t : ℕ) → t < next_ticket_of m.world.snapshot.words → IsSome (entry_with t m.world.snapshot.views)
 each_ticket s m kept ended t lt = has_entry m.world.snapshot.views t (let_go s m kept ended) (kept.world.sound.tickets.each_once t (omega arith) lt)
 
 -- ---- pages can be read

@@ -1,4 +1,3 @@
-pub mod HostBlocks
 pub mod Members
 pub mod InOrder
 pub mod MovesInOrder
@@ -8,11 +7,11 @@ pub mod TurnCases
 pub mod IdleSeats
 pub mod SeatsInPlace
 pub mod Acting
-pub mod HostSeatsKept
+pub mod HostLines
+pub mod HostRuns
+pub mod DriverSeat
 pub mod SeatTurns
 pub mod OutAlong
-pub mod PlainRequests
-pub mod HostFrames
 pub mod OutKept
 pub mod MadeLists
 pub mod CallsKept
@@ -20,8 +19,6 @@ pub mod CallEnds
 pub mod CallLeases
 pub mod CallSteps
 pub mod CallPlaces
-pub mod HostHolds
-pub mod HostRuns
 pub mod CallTurns
 pub mod Starts
 pub mod MachineKept

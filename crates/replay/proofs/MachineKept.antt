@@ -64,7 +64,7 @@ calls_at_start s r = record {
 world_kept : (s : Scenario) (m : Running) (actor : Actor) → IsRunnable s → IsKept s m → IsConsistent (setting s) (after_turn (setting s) m actor).world
 world_kept s m actor r kept = turn_cases (setting s) m (λ n. IsConsistent (setting s) n.world) kept.world
     (λ i below going. action_kept (setting s) (suc i) m.world (next_action (owner_of m.owners (suc i))) (setting_fits s r) kept.world (may_act s m i r kept below going))
-    (λ going. action_kept (setting s) 0 m.world (host_action m.host) (setting_fits s r) kept.world (host_may_act s m r kept))
+    (λ going. action_kept (setting s) 0 m.world (host_action m.host) (setting_fits s r) kept.world (host_may_act s m r kept going))
     actor
 
 -- ---- the run

@@ -1,5 +1,4 @@
--- Behind each turn a frame in an owner's hand is out for its call, or to be given back, and one in the driver's hand is
--- of a block that it holds.
+-- Behind each turn a frame in an owner's hand is out for its call, or to be given back.
 use Rattle.std.proofs.Common.{◌≡◌, ◌≢◌, ℕ, suc, ◌-◌, ◌<◌, false, List, length, length-set, get_or-set_same, set, slice_get, refl, sym, ap, ◌∙◌, subst, arith, Option, Some, None, IsSome}
 use Rattle.std.proofs.lemmas.Option.{get_or_from_slice_get}
 use mathlib.Core.Logic.{dite}
@@ -32,8 +31,8 @@ use Rattle.machine.specs.declared.action.SpaceCall.TheVariants.{Lease, Return}
 use Rattle.machine.specs.Consistent.{IsConsistent}
 use Rattle.machine.specs.Made.{Made, heard_by, step_made, move_made, lease_made, return_made, made}
 use Rattle.machine.specs.MayMake.{MayStep, MayMove, MayLease, MayMake}
-use Rattle.machine.specs.World.{World, free_seat, IsOwnerSeat, HasFrame, space_now}
-use Rattle.machine.proofs.Elsewhere.{other_out, driver_stays, held_stays}
+use Rattle.machine.specs.World.{World, free_seat, HasFrame, space_now}
+use Rattle.machine.proofs.Elsewhere.{other_out}
 use Rattle.machine.proofs.LeasesKept.{lease_hands, lease_here, lease_out}
 use Rattle.machine.proofs.MovesKept.{held_out}
 use Rattle.machine.proofs.OneFrame.{receiver_still}
@@ -41,18 +40,16 @@ use Rattle.machine.proofs.StepsKept.{hand_before}
 use Rattle.core_actors.specs.declared.place.Place.{Place}
 use Rattle.core_actors.specs.Fits.{seat_has as has_of, IsZeroed, HasInHand}
 use Rattle.core_actors.specs.FramesOut.{IsOutForCall}
-use Rattle.core_actors.specs.Hosts.{host_action}
+use Rattle.core_actors.specs.Hosts.{host_ended, host_action}
 use Rattle.core_actors.specs.Owners.{OwnerState, owner_ended, next_action, owner_after}
 use Rattle.core_actors.specs.Places.{ends_call, frame_owed}
 use Rattle.core_actors.proofs.Asks.{leases_at, returns_at, owners_action}
-use Rattle.core_actors.proofs.HostActions.{hosts_action}
 use Rattle.core_actors.proofs.OutForCalls.{not_none, out_still}
 use Rattle.replay.specs.FramesInHand.{AreFramesInHand}
 use Rattle.replay.specs.Keeping.{IsKept}
 use Rattle.replay.specs.Running.{Running, owner_of, owner_acted, host_acted, after_turn}
 use Rattle.replay.specs.Runs.{opening, setting}
 use Rattle.replay.proofs.Acting.{setting_fits, owner_view, owner_seat, may_act, host_may_act}
-use Rattle.replay.proofs.HostFrames.{driver_behind}
 use Rattle.replay.proofs.OutAlong.{out_after, out_goes_on, owes_none, move_goes_on, moved_at, out_as_asked}
 use Rattle.replay.proofs.SeatsInPlace.{world_then, owner_had, each_owner}
 use Rattle.replay.proofs.SeatTurns.{actor_at, actor_has, actor_fits, seat_there, free_there, free_apart, seat_behind}
@@ -74,7 +71,7 @@ module _ (s : Scenario) (m : Running) (r : IsRunnable s) (kept : IsKept s m) (i 
   st = space_now (setting s) m.world
 
   before : (f : ℕ) → IsSome (hand_frame v f) → IsOutForCall st a.left (frame_owed a.place) f
-  before f some = kept.frames.owners i a f (actor_at s m r kept i below going) some
+  before f some = kept.frames i a f (actor_at s m r kept i below going) some
 
   abbrev IsHandBehind : Made → Type 0
   IsHandBehind x = (f : ℕ) → IsSome (hand_frame (view_of x.world.snapshot.views (suc i)) f) → IsOutForCall (space_now (setting s) x.world) (owner_after a x.heard).left (frame_owed (owner_after a x.heard).place) f
@@ -156,7 +153,7 @@ module _ (s : Scenario) (m : Running) (r : IsRunnable s) (kept : IsKept s m) (se
       let had : HasFrame m.world (suc j) f = subst (λ (w : View). IsSome (hand_frame w f)) (sym (get_or_from_slice_get m.world.snapshot.views (suc j) u spent has)) some in
       out_still (space_now (setting s) m.world) f (space_now (setting s) later_world) b.left (frame_owed b.place)
       (other_out (setting s) seat m.world x (setting_fits s r) kept.world may (suc j) f (owner_seat s m kept j below) ne had)
-      (kept.frames.owners j b f at had)
+      (kept.frames j b f at had)
 
 -- ---- a turn
 
@@ -175,41 +172,28 @@ module _ (s : Scenario) (m : Running) (r : IsRunnable s) (kept : IsKept s m) whe
     may_make : MayMake (setting s) (suc i) m.world x
     may_make = may_act s m i r kept below going
 
-    mine : IsOwnerSeat (setting s) (suc i)
-    mine = owner_seat s m kept i below
-
     abbrev b : OwnerState
     b = owner_after (owner_of m.owners (suc i)) acted.heard
 
     owner_frames : AreFramesInHand s (owner_acted m (suc i) acted)
-    owner_frames = record {
-      owners = λ j c f at some.
-          let lt : j < length m.owners = let l = length-set m.owners (suc i - 1) b in let q = within (set m.owners (suc i - 1) b) j c at in omega arith in
-          each_owner s m r kept (suc i) x may_make i refl b (λ k d u. AreOutFor s m r kept (suc i) x may_make d u)
-          (hand_behind s m r kept i below going x refl may_make)
-          (λ k d u ne is has. others_out s m r kept (suc i) x may_make k d u (within m.owners k d is) ne is has)
-          j c (view_of acted.world.snapshot.views (suc j)) at (there acted.world (world_then s m r kept (suc i) x may_make) j lt) f some;
-      driver = λ f some.
-          let same = driver_stays (setting s) (suc i) m.world x (setting_fits s r) kept.world may_make mine in
-          let h = kept.frames.driver f (subst (λ (u : View). IsSome (hand_frame u f)) same some) in
-          record { block = h.block; held = held_stays (setting s) (suc i) m.world x (setting_fits s r) kept.world may_make mine h.block ∙ h.held; frame = h.frame };
-    }
+    owner_frames j c f at some =
+        let lt : j < length m.owners = let l = length-set m.owners (suc i - 1) b in let q = within (set m.owners (suc i - 1) b) j c at in omega arith in
+        each_owner s m r kept (suc i) x may_make i refl b (λ k d u. AreOutFor s m r kept (suc i) x may_make d u)
+        (hand_behind s m r kept i below going x refl may_make)
+        (λ k d u ne is has. others_out s m r kept (suc i) x may_make k d u (within m.owners k d is) ne is has)
+        j c (view_of acted.world.snapshot.views (suc j)) at (there acted.world (world_then s m r kept (suc i) x may_make) j lt) f some
 
-  host_frames : AreFramesInHand s (host_acted m (made (setting s) 0 m.world (host_action m.host)))
-  host_frames =
-      let may = host_may_act s m r kept in
+  host_frames : host_ended m.host ≡ false → AreFramesInHand s (host_acted (setting s) m (made (setting s) 0 m.world (host_action m.host)))
+  host_frames going j b f at some =
+      let may = host_may_act s m r kept going in
       let x : Action = host_action m.host in
       let later : World = (made (setting s) 0 m.world x).world in
-      record {
-        owners = λ j b f at some.
-            let lt = within m.owners j b at in
-            let ne : suc j ≢ 0 = λ e. omega arith in
-            let u : View = view_of later.snapshot.views (suc j) in
-            others_out s m r kept 0 x may j b u lt ne at (owner_had s m r kept 0 x may j u lt ne (there later (world_then s m r kept 0 x may) j lt)) f some;
-        driver = driver_behind s m r kept x (hosts_action m.host kept.host.commands) may;
-      }
+      let lt = within m.owners j b at in
+      let ne : suc j ≢ 0 = λ e. omega arith in
+      let u : View = view_of later.snapshot.views (suc j) in
+      others_out s m r kept 0 x may j b u lt ne at (owner_had s m r kept 0 x may j u lt ne (there later (world_then s m r kept 0 x may) j lt)) f some
 
 pub frames_kept : (s : Scenario) (m : Running) (actor : Actor) → IsRunnable s → IsKept s m → AreFramesInHand s (after_turn (setting s) m actor)
 frames_kept s m actor r kept = turn_cases (setting s) m (AreFramesInHand s) kept.frames
     (λ i below going. owner_frames s m r kept i below going)
-    (λ going. host_frames s m r kept) actor
+    (λ going. host_frames s m r kept going) actor

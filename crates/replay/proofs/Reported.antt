@@ -1,8 +1,8 @@
 -- What a run leaves whose owners and host have ended: a legal history, each script call once, the pages after
--- it, and their frames; the lines of the host's commands, and what the device and the driver did.
+-- it, and their frames; each command of the host with its line, and what the driver and the device did.
 use Rattle.std.proofs.Common.{◌≡◌, ◌≢◌, ℕ, cond, Bool, true, eq-eqb, ne_eqb, zero, suc, ◌+◌, ◌<◌, ◌≤◌, List, [], ◌++◌, length, map, get_or, sym, refl, ap, ◌∙◌, subst, arith, Option, Some, None}
 use Rattle.std.specs.Option.{option_map}
-use Rattle.std.specs.List.{slice_get, AllByRecursion}
+use Rattle.std.specs.List.{slice_get, range_with_len, AllByRecursion}
 use Rattle.std.specs.List.Sorted.{IsStrictlyIncreasing}
 use Rattle.std.proofs.lemmas.List.{get_or_past}
 use Rattle.std.proofs.lemmas.Option.{same_Some, none-some, slice_get-map}
@@ -10,12 +10,14 @@ use mathlib.Core.Logic.{dite}
 use native.Mathlib.Decide.{dec_le}
 use Rattle.evac_model.specs.declared.device_journal.DeviceAction.{DeviceAction}
 use Rattle.evac_model.specs.declared.entry.Entry.{Entry}
-use Rattle.evac_model.specs.declared.host.HostLine.{HostLine}
+use Rattle.evac_model.specs.declared.host.HostRun.{HostRun}
 use Rattle.evac_model.specs.declared.names.BlockNo.{BlockNo}
 use Rattle.evac_model.specs.declared.scenario.Scenario.{Scenario}
 use Rattle.evac_model.specs.declared.space.SpaceAction.{SpaceAction}
 use Rattle.evac_model.specs.Page.{PlainPage, Page}
-use Rattle.evac_model.specs.HostCommands.{host_actions, host_lines, host_onlines, host_runs, AreAnswered}
+use Rattle.evac_model.specs.Counts.{first_of_calls}
+use Rattle.evac_model.specs.DeviceJournal.{AreAnswered}
+use Rattle.evac_model.specs.HostCommands.{host_runs}
 use Rattle.evac_model.specs.Pairing.{actions_of, AreOutForPages, AreUnplugged}
 use Rattle.evac_model.specs.ScenarioGrammar.{online_of}
 use Rattle.evac_model.specs.Scenarios.{IsRunnable, IsOwnerCall}
@@ -35,6 +37,8 @@ use Rattle.core_state.proofs.CoreRooms.{start_pages_plain}
 use Rattle.core_state.proofs.Starts.{length-start_pages}
 use Rattle.core_state.proofs.Entries.{page_after-quiet}
 use Rattle.core_state.proofs.Histories.{from_opening, histories_are_legal, words_show_the_history}
+use Rattle.host_work.specs.Commands.{AreDoneBy}
+use Rattle.host_work.specs.Evacuated.{by_tale}
 use Rattle.report.specs.declared.report.Report.{Report}
 use Rattle.report.specs.FinalPages.{final_page, pages_below, pages_state}
 use Rattle.report.proofs.PageLaws.{numbers, pages_state-pages_below, rising-below}
@@ -47,7 +51,7 @@ use Rattle.replay.specs.Keeping.{IsKept}
 use Rattle.replay.proofs.Acting.{setting_fits}
 use Rattle.replay.proofs.Callers.{found_at, of_owner, of_scripts}
 use Rattle.replay.proofs.EndCalls.{paired_at_end}
-use Rattle.replay.proofs.EndHost.{all_lines, all_actions, all_onlines}
+use Rattle.replay.proofs.EndHost.{all_commands, all_numbers, all_done}
 use Rattle.replay.proofs.EndedOwners.{let_go}
 use Rattle.replay.proofs.EndFrames.{frames_at_end, unplugged_at_end}
 use Rattle.replay.proofs.Members.{there, all_at, get_or_at, numbered_at}
@@ -124,7 +128,7 @@ module _ (s : Scenario) (m : Running) (r : Report) (run : IsRunnable s) (k : IsK
       (λ low. omega arith)
 
   shows : (page : ℕ) → page < s.geometry.pages → FreeShows o words (entry_word_of words page) (page_at st page)
-  shows page lt = words_show_the_history o words views (plain_start s) r.history k.world.sound opens rep.history (let_go s m k ended.owners) page lt
+  shows page lt = words_show_the_history o words views (plain_start s) r.history k.world.sound opens rep.history (let_go s m k ended) page lt
 
   pages : r.pages ≡ pages_below st s.geometry.pages
   pages = rep.pages ∙ shown-below o words st s.geometry.pages (λ page lt. shown-free o words page (page_at st page) (shows page lt))
@@ -143,17 +147,24 @@ module _ (s : Scenario) (m : Running) (r : Report) (run : IsRunnable s) (k : IsK
 
   -- ---- the host and the device
 
-  host : r.host ≡ host_runs s.host (host_lines s.geometry (device_start s) 0 s.host)
-  host = rep.host ∙ ap (λ (lines : List HostLine). host_runs s.host lines) (all_lines s m k.host ended.host)
+  commands : map (λ x. x.command) r.host ≡ s.host
+  commands = subst (λ (runs : List HostRun). map (λ x. x.command) runs ≡ s.host) (sym rep.host) (all_commands s m k.host ended.host)
 
-  device : r.device_journal ≡ host_actions s.geometry (device_start s) s.host
-  device = rep.device ∙ all_actions s m k.host ended.host
+  command_numbers : map (λ x. x.line.no) r.host ≡ range_with_len 0 (length s.host)
+  command_numbers = subst (λ (runs : List HostRun). map (λ x. x.line.no) runs ≡ range_with_len 0 (length s.host)) (sym rep.host) (all_numbers s m k.host ended.host)
 
-  answered : AreAnswered s.geometry (device_start s) r.device_journal
-  answered = subst (λ (journal : List DeviceAction). AreAnswered s.geometry (device_start s) journal) (sym rep.device) k.world.answered
+  did : AreDoneBy (by_tale s.geometry) [] s.geometry (device_start s) r.host (actions_of 0 r.space_journal) r.device_journal
+  did =
+      subst (λ (runs : List HostRun). AreDoneBy (by_tale s.geometry) [] s.geometry (device_start s) runs (actions_of 0 r.space_journal) r.device_journal) (sym rep.host)
+      (subst (λ (journal : List SpaceAction). AreDoneBy (by_tale s.geometry) [] s.geometry (device_start s) (host_runs s.host m.lines) (actions_of 0 journal) r.device_journal) (sym rep.space)
+      (subst (λ (journal : List DeviceAction). AreDoneBy (by_tale s.geometry) [] s.geometry (device_start s) (host_runs s.host m.lines) (actions_of 0 m.world.space) journal) (sym rep.device)
+      (all_done s m k.host ended.host)))
 
-  driver : actions_of 0 r.space_journal ≡ host_onlines s.geometry (device_start s) s.host
-  driver = ap (λ (journal : List SpaceAction). actions_of 0 journal) rep.space ∙ all_onlines s m k.host ended.host
+  answered : AreAnswered s.geometry (device_start s) (first_of_calls []) r.device_journal
+  answered = subst (λ (journal : List DeviceAction). AreAnswered s.geometry (device_start s) (first_of_calls []) journal) (sym rep.device) k.world.answered
+
+  no_notices : AllByRecursion (λ a. a.notices ≡ []) r.device_journal
+  no_notices = subst (λ (journal : List DeviceAction). AllByRecursion (λ a. a.notices ≡ []) journal) (sym rep.device) k.host.kept.did.no_notices
 
   plugged : r.plugged ≡ block_list (device_reported s r).plugged
   plugged = rep.plugged ∙ ap (λ (journal : List DeviceAction). block_list (device_at s.geometry journal).plugged) (sym rep.device)
@@ -182,5 +193,5 @@ module _ (s : Scenario) (m : Running) (r : Report) (run : IsRunnable s) (k : IsK
       offline = offline;
       no_unplugged = no_unplugged;
     };
-    host = record { lines = host; device = device; answered = answered; driver = driver; plugged = plugged };
+    host = record { commands = commands; numbers = command_numbers; did = did; answered = answered; no_notices = no_notices; plugged = plugged };
   }

@@ -1,6 +1,6 @@
 -- In a round over all actors that begins before all of them have ended, the host makes an action, or some owner
 -- makes one that is no take that finds its page taken.
-use Rattle.std.proofs.Common.{◌≡◌, ℕ, zero, suc, ◌+◌, ◌<◌, ◌≤◌, Bool, true, false, List, [], ◌∷◌, ◌++◌, length, map, get_or, refl, sym, subst, ap, ◌∙◌, arith, inl, inr, Option, Some, None}
+use Rattle.std.proofs.Common.{◌≡◌, ℕ, zero, suc, ◌+◌, ◌<◌, ◌≤◌, Bool, true, false, List, [], ◌∷◌, ◌++◌, length, map, get_or, refl, sym, subst, ap, ◌∙◌, arith, Option, Some, None}
 use Rattle.std.specs.List.{sum_by, slice_get, range_with_len}
 use Rattle.std.proofs.lemmas.Option.{same_Some, none-some, slice_get-get_or}
 use Rattle.std.proofs.lemmas.Bool.{false_from_ne_true}
@@ -11,6 +11,7 @@ use Rattle.evac_model.specs.declared.call.Call.{Call}
 use Rattle.evac_model.specs.declared.scenario.Actor.{Actor}
 use Rattle.evac_model.specs.declared.scenario.Actor.TheVariants.{Owner, Host, Scanner}
 use Rattle.evac_model.specs.declared.scenario.Scenario.{Scenario}
+use Rattle.evac_model.specs.Scenarios.{IsRunnable}
 use Rattle.evac_model.specs.Scripts.{script_of}
 use Rattle.evac_words.specs.Word.{taken_bit}
 use Rattle.core_state.specs.declared.held.Held.{Held}
@@ -39,6 +40,7 @@ use Rattle.replay.specs.Runs.{opening, setting}
 use Rattle.replay.specs.Keeping.{IsKept}
 use Rattle.replay.proofs.Acting.{owner_view, owner_has, owner_fits}
 use Rattle.replay.proofs.ActionsLeft.{owner_actions_left, all_actions_left, host_none_left, action_lowers, host_lowers, turn_never_raises, TurnsKeep, turns_keep, turns_never_raise}
+use Rattle.replay.proofs.DriverSeat.{driver_lets_go}
 use Rattle.replay.proofs.Turns.{after_turns-append, found_by, found_at, heard_at, TurnOf, rests, acts, host_acts, turn_of, owners_after, host_stays}
 
 -- ---- an owner that holds a page
@@ -89,17 +91,17 @@ module _ (s : Scenario) (m : Running) (kept : IsKept s m) where
   holder_lowers : (i : ℕ) (a : OwnerState) → slice_get m.owners i ≡ Some a → 0 < made_holding a → all_actions_left (after_turn (setting s) m (Owner (suc i))) < all_actions_left m
   holder_lowers i a at some = let on = holder_goes_on i a at some in action_lowers s m kept i a at on.0 on.1
 
-  module _ (none : (i : ℕ) (a : OwnerState) → slice_get m.owners i ≡ Some a → made_holding a ≡ 0) where
-    -- where no owner has taken the page of its call, nobody holds a page
+  module _ (ended : host_ended m.host ≡ true) (none : (i : ℕ) (a : OwnerState) → slice_get m.owners i ≡ Some a → made_holding a ≡ 0) where
+    -- where the host has ended, and no owner has taken the page of its call, nobody holds a page
     all_let_go : AllLetGo m.world.snapshot.views
-    all_let_go zero v at = (kept.seats.others zero v at (inl refl)).rests.holds_none
+    all_let_go zero v at = driver_lets_go s m kept.host v at ended
     all_let_go (suc i) v at = dite (dec_lt i (length m.owners))
         (λ lt.
         let a : OwnerState = get_or m.owners i (owner_at_start 0 0 []) in
         let here : slice_get m.owners i ≡ Some a = slice_get-get_or m.owners i (owner_at_start 0 0 []) lt in
         let fits = (kept.seats.fits i a v here at).1 in
         held_none (opening s).cells a.left (seat_has a).page v.held (none i a here) fits.has.held)
-        (λ past. (kept.seats.others (suc i) v at (inr (omega (arith, kept.seats.owners)))).rests.holds_none)
+        (λ past. (kept.seats.others (suc i) v at (omega (arith, kept.seats.owners))).rests.holds_none)
 
     nobody_holds : (page : ℕ) → holders page m.world.snapshot.views ≡ 0
     nobody_holds page = sum_by_none (λ v. holds_page page v.held) m.world.snapshot.views (λ i v at. ap (holds_page page) (all_let_go i v at))
@@ -132,13 +134,13 @@ module _ (s : Scenario) (m : Running) (kept : IsKept s m) where
 
 -- ---- the turns of a round
 
-module _ (s : Scenario) (keep : TurnsKeep s) where
+module _ (s : Scenario) (run : IsRunnable s) (keep : TurnsKeep s) where
   -- a turn of an actor that lowers the actions left, and turns after it
   turn_then : (m : Running) (x actor : Actor) (xs : List Actor) → IsKept s m → x ≡ actor → all_actions_left (after_turn (setting s) m actor) < all_actions_left m
       → all_actions_left (after_turns (setting s) m (x ∷ xs)) < all_actions_left m
   turn_then m x actor xs kept is lower =
       let same = ap (λ (y : Actor). all_actions_left (after_turn (setting s) m y)) is in
-      let rest = turns_never_raise s keep (after_turn (setting s) m x) xs (keep m x kept) in
+      let rest = turns_never_raise s keep run (after_turn (setting s) m x) xs (keep m x kept) in
       omega arith
 
   -- turns, among them one of an owner that holds a page
@@ -163,25 +165,25 @@ module _ (s : Scenario) (keep : TurnsKeep s) where
             ∙ set_else m.owners k i (owner_after b (heard_at (setting s) m k b)) (λ e. apart (sym e))
             ∙ at in
             let lower = later still in
-            let less = turn_never_raises s m kept x in
+            let less = turn_never_raises s m kept run x in
             omega arith)
-        by_kind (host_acts is going) later = turn_then m x Host xs kept is (host_lowers s m kept going)
+        by_kind (host_acts is going) later = turn_then m x Host xs kept is (host_lowers s m kept run going)
 
-  -- turns, among them one of an owner that hasn't ended, where nobody holds a page
-  free_round : (m : Running) (xs : List Actor) (i j : ℕ) (a : OwnerState) → IsKept s m → ((k : ℕ) (b : OwnerState) → slice_get m.owners k ≡ Some b → made_holding b ≡ 0)
+  -- turns, among them one of an owner that hasn't ended, where the host has and nobody holds a page
+  free_round : (m : Running) (xs : List Actor) (i j : ℕ) (a : OwnerState) → IsKept s m → host_ended m.host ≡ true → ((k : ℕ) (b : OwnerState) → slice_get m.owners k ≡ Some b → made_holding b ≡ 0)
       → slice_get m.owners i ≡ Some a → owner_ended a ≡ false → slice_get xs j ≡ Some (Owner (suc i)) → all_actions_left (after_turns (setting s) m xs) < all_actions_left m
-  free_round m [] i j a kept none at going there = absurd (none-some (Owner (suc i)) there)
-  free_round m (x ∷ xs) i zero a kept none at going there = turn_then m x (Owner (suc i)) xs kept (same_Some x (Owner (suc i)) there) (free_lowers s m kept none i a at going)
-  free_round m (x ∷ xs) i (suc j) a kept none at going there = by_kind (turn_of (setting s) m x) (free_round m xs i j a kept none at going there) where
+  free_round m [] i j a kept ended none at going there = absurd (none-some (Owner (suc i)) there)
+  free_round m (x ∷ xs) i zero a kept ended none at going there = turn_then m x (Owner (suc i)) xs kept (same_Some x (Owner (suc i)) there) (free_lowers s m kept ended none i a at going)
+  free_round m (x ∷ xs) i (suc j) a kept ended none at going there = by_kind (turn_of (setting s) m x) (free_round m xs i j a kept ended none at going there) where
     by_kind : TurnOf (setting s) m x → all_actions_left (after_turns (setting s) m xs) < all_actions_left m → all_actions_left (after_turns (setting s) m (x ∷ xs)) < all_actions_left m
     by_kind (rests e) later = subst (λ (w : Running). all_actions_left (after_turns (setting s) w xs) < all_actions_left m) (sym e) later
-    by_kind (acts k b is here goes) later = turn_then m x (Owner (suc k)) xs kept is (free_lowers s m kept none k b here goes)
-    by_kind (host_acts is goes) later = turn_then m x Host xs kept is (host_lowers s m kept goes)
+    by_kind (acts k b is here goes) later = turn_then m x (Owner (suc k)) xs kept is (free_lowers s m kept ended none k b here goes)
+    by_kind (host_acts is goes) later = turn_then m x Host xs kept is (host_lowers s m kept run goes)
 
   -- turns, among them one of the host, which hasn't ended
   host_round : (m : Running) (xs : List Actor) (j : ℕ) → IsKept s m → host_ended m.host ≡ false → slice_get xs j ≡ Some Host → all_actions_left (after_turns (setting s) m xs) < all_actions_left m
   host_round m [] j kept going there = absurd (none-some Host there)
-  host_round m (x ∷ xs) zero kept going there = turn_then m x Host xs kept (same_Some x Host there) (host_lowers s m kept going)
+  host_round m (x ∷ xs) zero kept going there = turn_then m x Host xs kept (same_Some x Host there) (host_lowers s m kept run going)
   host_round m (x ∷ xs) (suc j) kept going there =
       by_kind (turn_of (setting s) m x) (λ still. host_round (after_turn (setting s) m x) xs j (keep m x kept) (ap host_ended still ∙ going) there) where
         by_kind : TurnOf (setting s) m x → ((after_turn (setting s) m x).host ≡ m.host → all_actions_left (after_turns (setting s) m (x ∷ xs)) < all_actions_left (after_turn (setting s) m x))
@@ -192,9 +194,9 @@ module _ (s : Scenario) (keep : TurnsKeep s) where
             omega arith
         by_kind (acts k b is here goes) later =
             let lower = later (ap (λ (y : Actor). (after_turn (setting s) m y).host) is ∙ host_stays (setting s) m (suc k)) in
-            let less = turn_never_raises s m kept x in
+            let less = turn_never_raises s m kept run x in
             omega arith
-        by_kind (host_acts is goes) later = turn_then m x Host xs kept is (host_lowers s m kept goes)
+        by_kind (host_acts is goes) later = turn_then m x Host xs kept is (host_lowers s m kept run goes)
 
 -- each owner and the host have their turns in a round
 owners_at : (first n i : ℕ) (rest : List Actor) → i < n → slice_get (map (λ k. Owner k) (range_with_len first n) ++ rest) i ≡ Some (Owner (first + i))
@@ -211,7 +213,7 @@ host_behind : (first n : ℕ) → slice_get (map (λ k. Owner k) (range_with_len
 host_behind first zero = refl
 host_behind first (suc n) = host_behind (first + 1) n
 
-module _ (s : Scenario) (keep : TurnsKeep s) where
+module _ (s : Scenario) (run : IsRunnable s) (keep : TurnsKeep s) where
   abbrev all_actors : List Actor
   all_actors = actors (length s.owners)
 
@@ -221,21 +223,21 @@ module _ (s : Scenario) (keep : TurnsKeep s) where
   host_there : slice_get all_actors (length s.owners) ≡ Some Host
   host_there = host_behind 1 (length s.owners)
 
-  owners_round : (m : Running) → IsKept s m → 0 < owner_actions_left m.owners → all_actions_left (after_turns (setting s) m all_actors) < all_actions_left m
-  owners_round m kept some = dite (ℕ_discrete (sum_by (λ a. made_holding a) m.owners) 0)
+  owners_round : (m : Running) → IsKept s m → host_ended m.host ≡ true → 0 < owner_actions_left m.owners → all_actions_left (after_turns (setting s) m all_actors) < all_actions_left m
+  owners_round m kept ended some = dite (ℕ_discrete (sum_by (λ a. made_holding a) m.owners) 0)
       (λ none.
       let p = sum_by_member actions_left m.owners some in
       let no_holder : (k : ℕ) (b : OwnerState) → slice_get m.owners k ≡ Some b → made_holding b ≡ 0 = λ k b at. (let few = member_le_sum_by (λ (x : OwnerState). made_holding x) m.owners k b at in omega arith) in
-      free_round s keep m all_actors p.0 p.0 p.1 kept no_holder p.2 (going_on s m kept p.0 p.1 p.2 p.3) (there_at m p.0 p.1 kept p.2))
+      free_round s run keep m all_actors p.0 p.0 p.1 kept ended no_holder p.2 (going_on s m kept p.0 p.1 p.2 p.3) (there_at m p.0 p.1 kept p.2))
       (λ more.
       let p = sum_by_member (λ (x : OwnerState). made_holding x) m.owners (omega arith) in
-      holder_round s keep m all_actors p.0 p.0 p.1 kept p.2 p.3 (there_at m p.0 p.1 kept p.2))
+      holder_round s run keep m all_actors p.0 p.0 p.1 kept p.2 p.3 (there_at m p.0 p.1 kept p.2))
 
   round_lowers : (m : Running) → IsKept s m → 0 < all_actions_left m → all_actions_left (after_turns (setting s) m all_actors) < all_actions_left m
   round_lowers m kept some = by_host (host_ended m.host) refl where
     by_host : (b : Bool) → host_ended m.host ≡ b → all_actions_left (after_turns (setting s) m all_actors) < all_actions_left m
-    by_host true ended = owners_round m kept (let none = (host_none_left m.host kept.host.under_way).1 ended in omega arith)
-    by_host false going = host_round s keep m all_actors (length s.owners) kept going host_there
+    by_host true ended = owners_round m kept ended (let none = (host_none_left s m kept).1 ended in omega arith)
+    by_host false going = host_round s run keep m all_actors (length s.owners) kept going host_there
 
   -- no action is left after as many rounds as there were actions left
   pub rounds_end : (n : ℕ) (m : Running) → IsKept s m → all_actions_left m ≤ n → all_actions_left (after_turns (setting s) m (rounds all_actors n)) ≡ 0
@@ -243,6 +245,6 @@ module _ (s : Scenario) (keep : TurnsKeep s) where
   rounds_end (suc n) m kept few =
       let next : Running = after_turns (setting s) m all_actors in
       let fewer : all_actions_left next ≤ n = dite (ℕ_discrete (all_actions_left m) 0)
-      (λ none. omega (arith, turns_never_raise s keep m all_actors kept))
+      (λ none. omega (arith, turns_never_raise s keep run m all_actors kept))
       (λ more. omega (arith, round_lowers m kept (omega arith))) in
       ap all_actions_left (after_turns-append (setting s) m all_actors (rounds all_actors n)) ∙ rounds_end n next (turns_keep s keep m all_actors kept) fewer

@@ -1,5 +1,5 @@
--- A turn keeps each owner's seat as its script has it, and the other seats idle.
-use Rattle.std.proofs.Common.{◌≡◌, ◌≢◌, ℕ, suc, ◌-◌, ◌<◌, false, List, [], length, length-set, set, get_or-set_same, refl, sym, ap, ◌∙◌, subst, arith, Option, Some, None}
+-- A turn keeps each owner's seat as its script has it, and those behind the owners' idle.
+use Rattle.std.proofs.Common.{◌≡◌, ◌≢◌, ℕ, suc, ◌-◌, ◌<◌, false, List, [], ◌++◌, length, length-set, set, get_or-set_same, refl, sym, ◌∙◌, subst, arith, Option, Some, None}
 use Rattle.std.specs.List.{slice_get}
 use Rattle.std.proofs.lemmas.Option.{slice_get-get_or}
 use Rattle.evac_model.specs.declared.call.Call.{Call}
@@ -31,23 +31,24 @@ use Rattle.machine.specs.declared.action.SpaceCall.TheVariants.{Lease, Return}
 use Rattle.machine.specs.Made.{Made, step_made, move_made, lease_made, return_made, made}
 use Rattle.machine.specs.MayMake.{MayStep, MayLease, MayMake}
 use Rattle.machine.specs.World.{free_seat, space_now}
-use Rattle.machine.proofs.Elsewhere.{driver_stays}
 use Rattle.machine.proofs.HandedFrames.{giver_after, receiver_after}
 use Rattle.machine.proofs.LeasesKept.{lease_hands}
 use Rattle.core_actors.specs.Fits.{Fits}
+use Rattle.core_actors.specs.HostHears.{host_after, line_after}
+use Rattle.core_actors.specs.Hosts.{host_ended, host_action}
 use Rattle.core_actors.specs.Owners.{OwnerState, owner_at_start, owner_ended, next_action, owner_after}
 use Rattle.core_actors.proofs.Asks.{owners_action}
 use Rattle.core_actors.proofs.FitSteps.{fits_after_step, fits_after_move, fits_after_lease, fits_after_refusal, fits_after_return}
 use Rattle.replay.specs.Keeping.{IsInOrder, AreSeatsKept, IsKept}
-use Rattle.replay.specs.Running.{Running, owner_of, owner_acted, after_turn}
+use Rattle.replay.specs.Running.{Running, owner_of, owner_acted, line_list, plugged_behind, host_acted, after_turn}
 use Rattle.replay.specs.Runs.{opening, setting}
-use Rattle.replay.proofs.Acting.{setting_fits, owner_view, owner_seat, owner_has, owner_fits, may_act}
-use Rattle.replay.proofs.HostSeatsKept.{host_seats_kept}
-use Rattle.replay.proofs.IdleSeats.{IsButHand}
+use Rattle.replay.proofs.Acting.{setting_fits, owner_view, owner_has, owner_fits, may_act, host_may_act}
+use Rattle.replay.proofs.DriverSeat.{driver_in_order}
+use Rattle.replay.proofs.HostRuns.{owner_leaves, host_goes_on}
 use Rattle.replay.proofs.InOrder.{step_in_order}
 use Rattle.replay.proofs.MovesInOrder.{hand_in_order, move_in_order}
 use Rattle.replay.proofs.OwnersStay.{stays}
-use Rattle.replay.proofs.SeatsInPlace.{FitsAt, IsOwnerKept, each_owner, seats_then}
+use Rattle.replay.proofs.SeatsInPlace.{FitsAt, IsOwnerKept, owner_had, each_owner, seats_then}
 use Rattle.replay.proofs.TurnCases.{turn_cases}
 
 -- ---- the seat of an owner behind its action
@@ -155,20 +156,32 @@ module _ (s : Scenario) (m : Running) (r : IsRunnable s) (kept : IsKept s m) (i 
   may_make : MayMake (setting s) (suc i) m.world (next_action actor)
   may_make = may_act s m i r kept below going
 
-  -- the driver's view is as it was
-  driver : IsButHand (view_of views 0) (view_of acted.world.snapshot.views 0)
-  driver =
-      let same = driver_stays (setting s) (suc i) m.world (next_action actor) (setting_fits s r) kept.world may_make (owner_seat s m kept i below) in
-      record { same = same ∙ ap (λ (u : View). record (view_of views 0) { hand = u.hand }) (sym same) }
-
   owner_seats_kept : AreSeatsKept s (owner_acted m (suc i) acted)
-  owner_seats_kept = seats_then s m r kept (suc i) (next_action actor) may_make driver (set m.owners (suc i - 1) b) m.host m.lines (length-set m.owners (suc i - 1) b)
+  owner_seats_kept = seats_then s m r kept (suc i) (next_action actor) may_make (set m.owners (suc i - 1) b) m.host m.lines (length-set m.owners (suc i - 1) b)
+      (driver_in_order s (owner_acted m (suc i) acted) (owner_leaves s m r kept i below going))
       (each_owner s m r kept (suc i) (next_action actor) may_make i refl b (IsOwnerKept s) (seat_behind (next_action actor) refl may_make)
       (λ j c u ne at has. record { fits = kept.seats.fits j c u at has; order = kept.seats.in_order (suc j) u has }))
+
+-- ---- the seats behind the host's action
+
+module _ (s : Scenario) (m : Running) (r : IsRunnable s) (kept : IsKept s m) (going : host_ended m.host ≡ false) where
+  abbrev host_made : Made
+  host_made = made (setting s) 0 m.world (host_action m.host)
+
+  may_go_on : MayMake (setting s) 0 m.world (host_action m.host)
+  may_go_on = host_may_act s m r kept going
+
+  host_seats_kept : AreSeatsKept s (host_acted (setting s) m host_made)
+  host_seats_kept = seats_then s m r kept 0 (host_action m.host) may_go_on m.owners
+      (host_after (plugged_behind (setting s) host_made) m.host host_made.heard) (m.lines ++ line_list (line_after (plugged_behind (setting s) host_made) m.host host_made.heard)) refl
+      (driver_in_order s (host_acted (setting s) m host_made) (host_goes_on s m r kept going))
+      (λ j c u at has.
+      let had = owner_had s m r kept 0 (host_action m.host) may_go_on j u (within m.owners j c at) (λ e. omega arith) has in
+      record { fits = kept.seats.fits j c u at had; order = kept.seats.in_order (suc j) u had })
 
 -- ---- a turn
 
 pub seats_kept : (s : Scenario) (m : Running) (actor : Actor) → IsRunnable s → IsKept s m → AreSeatsKept s (after_turn (setting s) m actor)
 seats_kept s m actor r kept = turn_cases (setting s) m (AreSeatsKept s) kept.seats
     (λ i below going. owner_seats_kept s m r kept i below going)
-    (λ going. host_seats_kept s m r kept) actor
+    (λ going. host_seats_kept s m r kept going) actor

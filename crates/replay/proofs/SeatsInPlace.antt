@@ -1,6 +1,6 @@
--- What an action of one seat leaves of the others: the view of each other owner's seat, and all but the hands of the
--- seats that make no calls.
-use Rattle.std.proofs.Common.{◌≡◌, ◌≢◌, ◌⊎◌, ⊎_elim, ℕ, zero, suc, ◌+◌, ◌-◌, ◌<◌, ◌≤◌, List, [], length, get_or, set, refl, sym, ◌∙◌, subst, arith, inl, inr, Some}
+-- What an action of one seat leaves of the others: the view of each other owner's seat, and all but the hands of those
+-- behind the owners'.
+use Rattle.std.proofs.Common.{◌≡◌, ◌≢◌, ⊎_elim, ℕ, zero, suc, ◌+◌, ◌-◌, ◌<◌, ◌≤◌, List, [], length, get_or, set, sym, ◌∙◌, subst, arith, Some}
 use Rattle.std.specs.List.{slice_get}
 use Rattle.std.proofs.lemmas.Bool.{cases_lt}
 use Rattle.std.proofs.lemmas.Nat.{pow_pos}
@@ -39,10 +39,6 @@ pub record IsOwnerKept (s : Scenario) (j : ℕ) (b : OwnerState) (w : View) : Ty
   pub fits : FitsAt s j b w
   pub order : IsInOrder w
 
--- the seat is the driver's, or lies behind the owners'
-abbrev pub IsOther : Scenario → (seat : ℕ) → Type 0
-IsOther s seat = (seat ≡ 0) ⊎ (length s.owners < seat)
-
 module _ (s : Scenario) (m : Running) (r : IsRunnable s) (kept : IsKept s m) (seat : ℕ) (x : Action) (may : MayMake (setting s) seat m.world x) where
   abbrev pub then : World
   then = (made (setting s) seat m.world x).world
@@ -72,49 +68,45 @@ module _ (s : Scenario) (m : Running) (r : IsRunnable s) (kept : IsKept s m) (se
         (λ q. let ne : suc j ≢ seat = λ e. q.0 (omega arith) in others j c u ne q.1 (owner_had j u (within m.owners j c q.1) ne has))
         (at_set m.owners i j b c (subst (λ (k : ℕ). slice_get (set m.owners k b) j ≡ Some c) place at))
 
-  -- ---- the other seats
+  -- ---- the seats behind the owners'
 
   keeper_still : (j : ℕ) → length s.owners < j → j < length s.owners + 4 → IsButHand (view_of m.world.snapshot.views j) (view_of then.snapshot.views j)
   keeper_still j past there = record { same = keeper_changes_hand (setting s) seat m.world x (setting_fits s r) kept.world may j past there }
 
-  module _ (driver : IsButHand (view_of m.world.snapshot.views 0) (view_of then.snapshot.views 0)) where
-    still : (j : ℕ) → IsOther s j → j < length s.owners + 4 → IsButHand (view_of m.world.snapshot.views j) (view_of then.snapshot.views j)
-    still zero other there = driver
-    still (suc k) other there = keeper_still (suc k) (⊎_elim (λ first. absurd (omega arith)) (λ past. past) other) there
+  -- such a seat has its view still but for the hand
+  keeper_had : (j : ℕ) (u : View) → Has then.snapshot.views j u → length s.owners < j → (v : View) × Has m.world.snapshot.views j v × IsButHand v u
+  keeper_had j u has past =
+      let there : j < length s.owners + 4 = let a = within then.snapshot.views j u has in let n = world_then.seats in omega arith in (
+        view_of m.world.snapshot.views j,
+        seat_has m.world.snapshot.views j (let n = kept.world.seats in omega arith),
+        subst (λ (w : View). IsButHand (view_of m.world.snapshot.views j) w) (get_or_from_slice_get then.snapshot.views j u spent has) (keeper_still j past there),
+      )
 
-    -- a seat that makes no calls has its view still but for the hand
-    other_had : (j : ℕ) (u : View) → Has then.snapshot.views j u → IsOther s j → (v : View) × Has m.world.snapshot.views j v × IsButHand v u
-    other_had j u has other =
-        let there : j < length s.owners + 4 = let a = within then.snapshot.views j u has in let n = world_then.seats in omega arith in (
-          view_of m.world.snapshot.views j,
-          seat_has m.world.snapshot.views j (let n = kept.world.seats in omega arith),
-          subst (λ (w : View). IsButHand (view_of m.world.snapshot.views j) w) (get_or_from_slice_get then.snapshot.views j u spent has) (still j other there),
-        )
+  keeper_idle : (j : ℕ) (u : View) → Has then.snapshot.views j u → length s.owners < j → IsIdle (opening s) u
+  keeper_idle j u has past =
+      let had = keeper_had j u has past in
+      let some : 1 ≤ s.geometry.cells = let q = r.limits.cells in let z = pow_pos q.0 in omega (arith, q.2, z) in
+      idle_still (opening s) had.0 u some (kept.seats.others j had.0 had.1 past) had.2 (world_then.sound.seats.each j u has)
 
-    other_idle : (j : ℕ) (u : View) → Has then.snapshot.views j u → IsOther s j → IsIdle (opening s) u
-    other_idle j u has other =
-        let had = other_had j u has other in
-        let some : 1 ≤ s.geometry.cells = let q = r.limits.cells in let z = pow_pos q.0 in omega (arith, q.2, z) in
-        idle_still (opening s) had.0 u some (kept.seats.others j had.0 had.1 other) had.2 (world_then.sound.seats.each j u has)
+  keeper_in_order : (j : ℕ) (u : View) → Has then.snapshot.views j u → length s.owners < j → IsInOrder u
+  keeper_in_order j u has past =
+      let had = keeper_had j u has past in
+      subst IsInOrder (sym had.2.same) (hand_in_order had.0 u.hand (kept.seats.in_order j had.0 had.1))
 
-    other_in_order : (j : ℕ) (u : View) → Has then.snapshot.views j u → IsOther s j → IsInOrder u
-    other_in_order j u has other =
-        let had = other_had j u has other in
-        subst IsInOrder (sym had.2.same) (hand_in_order had.0 u.hand (kept.seats.in_order j had.0 had.1))
+  -- the seats are kept, where those of the owners are, and the driver's tickets are in order
+  module _ (l : List OwnerState) (host : HostState) (lines : List HostLine) (long : length l ≡ length m.owners) (driver : (u : View) → Has then.snapshot.views 0 u → IsInOrder u)
+      (owners : (j : ℕ) (b : OwnerState) (u : View) → slice_get l j ≡ Some b → Has then.snapshot.views (suc j) u → IsOwnerKept s j b u) where
+    in_order_then : (j : ℕ) (u : View) → Has then.snapshot.views j u → IsInOrder u
+    in_order_then zero u has = driver u has
+    in_order_then (suc k) u has = ⊎_elim
+        (λ low. (owners k (get_or l k (owner_at_start 0 0 [])) u (slice_get-get_or l k (owner_at_start 0 0 []) (let n = kept.seats.owners in omega arith)) has).order)
+        (λ high. keeper_in_order (suc k) u has (omega arith))
+        (cases_lt k (length s.owners))
 
-    -- the seats are kept, where those of the owners are
-    module _ (l : List OwnerState) (host : HostState) (lines : List HostLine) (long : length l ≡ length m.owners) (owners : (j : ℕ) (b : OwnerState) (u : View) → slice_get l j ≡ Some b → Has then.snapshot.views (suc j) u → IsOwnerKept s j b u) where
-      in_order_then : (j : ℕ) (u : View) → Has then.snapshot.views j u → IsInOrder u
-      in_order_then zero u has = other_in_order zero u has (inl refl)
-      in_order_then (suc k) u has = ⊎_elim
-          (λ low. (owners k (get_or l k (owner_at_start 0 0 [])) u (slice_get-get_or l k (owner_at_start 0 0 []) (let n = kept.seats.owners in omega arith)) has).order)
-          (λ high. other_in_order (suc k) u has (inr (omega arith)))
-          (cases_lt k (length s.owners))
-
-      pub seats_then : AreSeatsKept s (record { world = then; owners = l; host = host; lines = lines })
-      seats_then = record {
-        owners = long ∙ kept.seats.owners;
-        fits = λ j b u at has. (owners j b u at has).fits;
-        in_order = in_order_then;
-        others = other_idle;
-      }
+    pub seats_then : AreSeatsKept s (record { world = then; owners = l; host = host; lines = lines })
+    seats_then = record {
+      owners = long ∙ kept.seats.owners;
+      fits = λ j b u at has. (owners j b u at has).fits;
+      in_order = in_order_then;
+      others = keeper_idle;
+    }

@@ -1,5 +1,5 @@
--- The start of a run: what the machine is opened with, how the owners fit their seats, that the others are idle, and
--- that owners and the driver have no frame in hand.
+-- The start of a run: what the machine is opened with, how the owners fit their seats, that those behind them are idle,
+-- and that owners have no frame in hand.
 use Rattle.std.proofs.Common.{◌≡◌, ℕ, zero, suc, ◌+◌, List, [], ◌∷◌, ◌++◌, length, get_or, sum, refl, sym, ap, ◌∙◌, subst, arith, Option, Some, None, IsSome}
 use Rattle.std.specs.List.{AllByRecursion, slice_get}
 use Rattle.std.proofs.lemmas.Bool.{false≢true}
@@ -51,9 +51,9 @@ length-owners_from cells k (c ∷ cs) = ap suc (length-owners_from cells (k + 1)
 -- ---- what the machine is opened with
 
 -- the setting of the machine is that of the run
-pub setting_is : (s : Scenario) → setting_at_start s.geometry (online_of s) s.start (budgets_of s.owners) ≡ setting s
+pub setting_is : (s : Scenario) → setting_at_start s.geometry (online_of s) s.start (budgets_of s.owners) [] ≡ setting s
 setting_is s =
-    ap (λ (n : ℕ). let c : Setting = record { opening = opening s; sizes = s.geometry; online = online_of s; space = (setting s).space; owners = n } in c)
+    ap (λ (n : ℕ). let c : Setting = record { opening = opening s; sizes = s.geometry; online = online_of s; space = (setting s).space; owners = n; backing = (setting s).backing } in c)
     (length-map s.owners (λ (script : List (PageNo × Call)). length script))
 
 pub may_start : (s : Scenario) → IsRunnable s → MayStart s.geometry (online_of s) s.start (budgets_of s.owners)
@@ -68,7 +68,7 @@ may_start s r = record {
 pub world_at_start_kept : (s : Scenario) → IsRunnable s → IsConsistent (setting s) (running_at_start s).world
 world_at_start_kept s r =
     subst (λ (c : Setting). IsConsistent c (running_at_start s).world) (setting_is s)
-    (opened_consistent s.geometry (online_of s) s.start (budgets_of s.owners) (may_start s r))
+    (opened_consistent s.geometry (online_of s) s.start (budgets_of s.owners) [] (may_start s r))
 
 -- ---- an owner and its seat
 
@@ -174,7 +174,7 @@ module _ (s : Scenario) (r : IsRunnable s) where
     owners = length-owners_from s.geometry.cells 1 s.owners;
     fits = λ i a v at has. starts_fit s.geometry s.start (budgets_of s.owners) s.owners last i a v r.calls at has;
     in_order = λ i v has. let n = opens.new i v has in none_in_order v n.entries n.held;
-    others = λ i v has other. new_is_idle (opening s) v (opens.new i v has);
+    others = λ i v has past. new_is_idle (opening s) v (opens.new i v has);
   }
 
   owner_empty : (i : ℕ) (a : OwnerState) (frame : ℕ) → slice_get (running_at_start s).owners i ≡ Some a → hand_frame (view_of start_views (suc i)) frame ≡ None
@@ -185,7 +185,4 @@ module _ (s : Scenario) (r : IsRunnable s) where
       empty_at s.geometry s.owners last i a (view_of start_views (suc i)) frame at (slice_get-get_or start_views (suc i) spent (omega arith))
 
   pub frames_at_start : AreFramesInHand s (running_at_start s)
-  frames_at_start = record {
-    owners = λ i a frame at has. absurd (false≢true (subst (λ (x : Option HandFrame). IsSome x) (owner_empty i a frame at) has));
-    driver = λ frame has. absurd (false≢true (subst (λ (x : Option HandFrame). IsSome x) (none_there (frame_count s.geometry) frame) has));
-  }
+  frames_at_start i a frame at has = absurd (false≢true (subst (λ (x : Option HandFrame). IsSome x) (owner_empty i a frame at) has))

@@ -18,7 +18,7 @@ module _ (c : Setting) (m : Running) (P : Running → Type 0) where
 
   -- the run behind the next action of the host
   abbrev behind_host : Running
-  behind_host = host_acted m (made c 0 m.world (host_action m.host))
+  behind_host = host_acted c m (made c 0 m.world (host_action m.host))
 
   module _ (now : P m) (owners : (i : ℕ) → i < length m.owners → owner_ended (owner_of m.owners (suc i)) ≡ false → P (behind_owner i)) (host : host_ended m.host ≡ false → P behind_host) where
     -- an owner that isn't there has ended

@@ -14,10 +14,11 @@ use Rattle.machine.specs.declared.action.Action.{Action}
 use Rattle.machine.specs.declared.action.Action.TheVariants as actions
 use Rattle.machine.specs.declared.action.Heard.{Heard}
 use Rattle.machine.specs.Made.{Made, made}
-use Rattle.machine.specs.World.{Setting, World}
-use Rattle.core_actors.specs.Hosts.{HostState, host_ended, host_action, host_after, line_after}
+use Rattle.machine.specs.World.{Setting, World, device_now}
+use Rattle.core_actors.specs.HostHears.{host_after, line_after}
+use Rattle.core_actors.specs.Hosts.{HostState, host_ended, host_action}
 use Rattle.core_actors.specs.Owners.{OwnerState, owner_at_start, owner_ended, next_action, owner_after}
-use Rattle.replay.specs.Running.{Running, owner_of, owner_acted, line_list, host_acted, after_turn, after_turns}
+use Rattle.replay.specs.Running.{Running, owner_of, owner_acted, line_list, plugged_behind, host_acted, after_turn, after_turns}
 
 -- turns, and then turns
 pub after_turns-append : (c : Setting) (m : Running) (xs ys : List Actor) → after_turns c m (xs ++ ys) ≡ after_turns c (after_turns c m xs) ys
@@ -63,9 +64,9 @@ module _ (c : Setting) (m : Running) where
   abbrev pub heard_at : ℕ → OwnerState → Heard
   heard_at i a = (made_at i a).heard
 
-  -- what the host hears of its next action
-  abbrev pub host_hears : Heard
-  host_hears = (made c 0 m.world (host_action m.host)).heard
+  -- what the host's next action gives
+  abbrev pub host_made : Made
+  host_made = made c 0 m.world (host_action m.host)
 
   pub data TurnOf (actor : Actor) : Type 0 where
     rests : after_turn c m actor ≡ m → TurnOf actor
@@ -78,7 +79,7 @@ module _ (c : Setting) (m : Running) where
 
   -- the run behind the next action of the host
   abbrev behind_host : Running
-  behind_host = host_acted m (made c 0 m.world (host_action m.host))
+  behind_host = host_acted c m host_made
 
   -- an owner that has ended rests
   pub rests_at : (k : ℕ) → owner_ended (owner_of m.owners k) ≡ true → after_turn c m (Owner k) ≡ m
@@ -131,7 +132,7 @@ module _ (c : Setting) (m : Running) where
     by_bit false = refl
 
   -- a turn of a host that hasn't ended makes its next action
-  pub host_after_turn : host_ended m.host ≡ false → (after_turn c m Host).host ≡ host_after m.host host_hears
+  pub host_after_turn : host_ended m.host ≡ false → (after_turn c m Host).host ≡ host_after (plugged_behind c host_made) m.host host_made.heard
   host_after_turn going = ap (λ (b : Bool). (cond b m behind_host).host) going
 
 -- ---- a turn that was made
@@ -151,13 +152,15 @@ module _ (c : Setting) (m : Running) (action : Action) (w : World) (heard : Hear
       ∙ ap (λ (x : Made). owner_acted m k x) same
       ∙ sym (ap (λ (b : Bool). cond b m (owner_acted m k all)) (ap owner_ended is ∙ going))
 
-  -- the same of the host, with the line that it gave
-  pub host_turn_made : (h : HostState) (lines : List HostLine) → host_ended m.host ≡ false → action ≡ host_action m.host → given ≡ made c 0 m.world action → h ≡ host_after m.host heard → lines ≡ m.lines ++ line_list (line_after m.host heard)
+  -- The same of the host, with the line that it gave. It is told which blocks are plugged behind the action.
+  pub host_turn_made : (plugged : List ℕ) (h : HostState) (lines : List HostLine) → host_ended m.host ≡ false → action ≡ host_action m.host → given ≡ made c 0 m.world action → plugged ≡ (device_now c w).plugged
+      → h ≡ host_after plugged m.host heard → lines ≡ m.lines ++ line_list (line_after plugged m.host heard)
       → (let n : Running = record { world = w; owners = m.owners; host = h; lines = lines } in n) ≡ after_turn c m Host
-  host_turn_made h lines going next gives hears ends =
+  host_turn_made plugged h lines going next gives known hears ends =
       let all : Made = made c 0 m.world (host_action m.host) in
       let same : given ≡ all = gives ∙ ap (λ (x : Action). made c 0 m.world x) next in
       ap (λ (x : HostState). let n : Running = record { world = w; owners = m.owners; host = x; lines = lines } in n) hears
-      ∙ ap (λ (l : List HostLine). let n : Running = record { world = w; owners = m.owners; host = host_after m.host heard; lines = l } in n) ends
-      ∙ ap (λ (x : Made). host_acted m x) same
-      ∙ sym (ap (λ (b : Bool). cond b m (host_acted m all)) going)
+      ∙ ap (λ (l : List HostLine). let n : Running = record { world = w; owners = m.owners; host = host_after plugged m.host heard; lines = l } in n) ends
+      ∙ ap (λ (l : List ℕ). let n : Running = record { world = w; owners = m.owners; host = host_after l m.host heard; lines = m.lines ++ line_list (line_after l m.host heard) } in n) known
+      ∙ ap (λ (x : Made). host_acted c m x) same
+      ∙ sym (ap (λ (b : Bool). cond b m (host_acted c m all)) going)

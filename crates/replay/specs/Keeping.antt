@@ -1,5 +1,5 @@
 -- What holds of a run between any two turns.
-use Rattle.std.specs.Prelude.{◌≡◌, ◌⊎◌, ℕ, ◌<◌, ⊤, suc, List, [], ◌∷◌, length, slice_get, Some}
+use Rattle.std.specs.Prelude.{◌≡◌, ℕ, ◌<◌, ⊤, suc, List, [], ◌∷◌, length, slice_get, Some}
 use Rattle.std.specs.List.{AllByRecursion}
 use Rattle.evac_model.specs.declared.scenario.Scenario.{Scenario}
 use Rattle.evac_model.specs.declared.names.PageNo.{PageNo}
@@ -41,16 +41,15 @@ pub record IsIdle (o : Opening) (v : View) : Type 0 where
   pub rests : IsAtRest o v
   pub entries : v.entries ≡ []
 
--- Each owner's seat is as its script has it, and the other seats make no calls.
+-- Each owner's seat is as its script has it, and those behind the owners' make no calls. The tickets of every seat are in order.
 pub record AreSeatsKept (s : Scenario) (m : Running) : Type 0 where
   pub owners : length m.owners ≡ length s.owners
   pub fits : (i : ℕ) (a : OwnerState) (v : View) → slice_get m.owners i ≡ Some a → Has m.world.snapshot.views (suc i) v → (a.owner ≡ suc i) × Fits s.geometry (opening s) (script_of s.owners (suc i)) v a × HaveNumbers a.left
   pub in_order : (i : ℕ) (v : View) → Has m.world.snapshot.views i v → IsInOrder v
-  pub others : (i : ℕ) (v : View) → Has m.world.snapshot.views i v → (i ≡ 0) ⊎ (length s.owners < i) → IsIdle (opening s) v
+  pub others : (i : ℕ) (v : View) → Has m.world.snapshot.views i v → length s.owners < i → IsIdle (opening s) v
 
--- The world is consistent, the seats are kept, frames in the hands of owners and of the driver are out for their calls
--- or held, each owner's leases and returns are those of its calls, and what the host and the device do is what the
--- commands do.
+-- The world is consistent, the seats of owners and the driver's are kept, frames in owners' hands are out for their calls,
+-- each owner's leases and returns are those of its calls, and the commands of the host did what their lines say.
 pub record IsKept (s : Scenario) (m : Running) : Type 0 where
   pub world : IsConsistent (setting s) m.world
   pub seats : AreSeatsKept s m

@@ -3,10 +3,11 @@ use Rattle.std.specs.Prelude.{ℕ, zero, suc, ◌-◌, if◌then◌else◌, List
 use Rattle.evac_model.specs.declared.host.HostLine.{HostLine}
 use Rattle.evac_model.specs.declared.scenario.Actor.{Actor}
 use Rattle.evac_model.specs.declared.scenario.Actor.TheVariants.{Owner, Host, Scanner}
-use Rattle.core_actors.specs.Hosts.{HostState, host_ended, host_action, host_after, line_after}
+use Rattle.core_actors.specs.HostHears.{host_after, line_after}
+use Rattle.core_actors.specs.Hosts.{HostState, host_ended, host_action}
 use Rattle.core_actors.specs.Owners.{OwnerState, owner_at_start, owner_ended, next_action, owner_after}
 use Rattle.machine.specs.Made.{Made, made}
-use Rattle.machine.specs.World.{Setting, World}
+use Rattle.machine.specs.World.{Setting, World, device_now}
 
 -- the world, how each owner stands, that of owner 1 first, how the host stands, and the lines of its commands that
 -- have ended
@@ -40,15 +41,23 @@ abbrev pub line_list : Option HostLine → List HostLine
 line_list None = []
 line_list (Some line) = line ∷ []
 
--- the host's action did that, and the host hears of it, which may end its command
-abbrev pub host_acted : Running → Made → Running
-host_acted m x = record m { world = x.world; host = host_after m.host x.heard; lines = m.lines ++ line_list (line_after m.host x.heard) }
+-- the blocks that are plugged behind an action
+abbrev pub plugged_behind : Setting → Made → List ℕ
+plugged_behind c x = (device_now c x.world).plugged
+
+-- the host's action did that, and the host hears of it, and which blocks are plugged then; its command may end there
+abbrev pub host_acted : Setting → Running → Made → Running
+host_acted c m x = record m {
+  world = x.world;
+  host = host_after (plugged_behind c x) m.host x.heard;
+  lines = m.lines ++ line_list (line_after (plugged_behind c x) m.host x.heard);
+}
 
 -- a turn of the host; the driver's seat is its own
 abbrev pub after_host_turn : Setting → Running → Running
 after_host_turn c m =
     if host_ended m.host then m
-    else host_acted m (made c 0 m.world (host_action m.host))
+    else host_acted c m (made c 0 m.world (host_action m.host))
 
 -- A turn of an owner or of the host makes its next action, and nothing where it has ended. The scanner has ended
 -- from the beginning.

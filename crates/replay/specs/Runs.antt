@@ -3,6 +3,8 @@ use Rattle.std.specs.Prelude.{◌≡◌, ℕ, ◌+◌, zero, suc, ◌==◌, if�
 use Rattle.evac_model.specs.declared.names.PageNo.{PageNo}
 use Rattle.evac_model.specs.declared.call.Call.{Call}
 use Rattle.evac_model.specs.declared.scenario.Scenario.{Scenario}
+use Rattle.evac_model.specs.Counts.{first_of_calls}
+use Rattle.evac_model.specs.DeviceAnswer.{device_at_start}
 use Rattle.evac_model.specs.HostCommands.{host_runs}
 use Rattle.evac_model.specs.ScenarioGrammar.{online_of}
 use Rattle.evac_model.specs.SpaceJournal.{space_at_start}
@@ -37,16 +39,16 @@ owners_from cells k (script ∷ scripts) = owner_at_start k cells script ∷ own
 abbrev pub opening : Scenario → Opening
 opening s = opening_of s.geometry s.start (budgets_of s.owners)
 
--- what a scenario's run begins with
+-- what a scenario's run begins with; no call of the device's backing fails yet
 abbrev pub setting : Scenario → Setting
 setting s =
-    record { opening = opening s; sizes = s.geometry; online = online_of s; space = space_at_start s.geometry s.start; owners = length s.owners }
+    record { opening = opening s; sizes = s.geometry; online = online_of s; space = space_at_start s.geometry s.start; owners = length s.owners; backing = first_of_calls [] }
 
 abbrev pub running_at_start : Scenario → Running
 running_at_start s = record {
   world = world_at_start s.geometry s.start (budgets_of s.owners);
   owners = owners_from s.geometry.cells 1 s.owners;
-  host = host_at_start s.geometry s.host;
+  host = host_at_start s.geometry (device_at_start s.geometry).plugged s.host;
   lines = [];
 }
 

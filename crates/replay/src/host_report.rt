@@ -3,23 +3,23 @@
 ghost use Rattle.std.specs.Prelude.{◌≡◌, IfOk};
 ghost use Rattle.evac_model.specs.HostCommands.{host_runs};
 
-use evac_model::{HostCommand, HostLine, HostRun};
-use std::alloc::{AllocError, Global};
+use evac_model::{HostCommand, HostLine, HostRun, HostRunList, Listed, OutOfMemory};
+use std::alloc::Global;
 
-/// The commands that have lines, each with its own.
+/// The commands that have lines, each with its own. The lines are moved.
 pub(crate) fn runs(
     alloc: Global,
     commands: &[HostCommand],
-    lines: &[HostLine],
-) -> Result<Vec<HostRun>, AllocError>
-    ensures { IfOk result (λ v. v.items ≡ host_runs commands.now lines.now) }
+    lines: Vec<HostLine>,
+) -> Result<HostRunList, OutOfMemory>
+    ensures { IfOk result (λ runs. runs ≡ host_runs commands.now lines.items) }
 {
     let mut runs = Vec::new(alloc);
     for (command, line) in commands.iter().zip(lines) {
         runs.push(HostRun {
             command: *command,
-            line: *line,
+            line,
         })?;
     }
-    Ok(runs)
+    Ok(Listed::from_vec(runs))
 }

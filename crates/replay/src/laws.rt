@@ -22,8 +22,8 @@ pub fn starts_are_kept()
 {}
 
 /// Each turn of each actor keeps the world consistent, each owner's seat as its script has it, the frames where
-/// the journals of the space and of the device have them, each owner's leases and returns those of its calls, and
-/// what the host and the device did what the commands do.
+/// the journals of the space and of the device have them, each owner's leases and returns those of its calls, the driver's
+/// seat as the place of its command has it, and what the driver and the device did what the lines of the commands say.
 pub fn turns_are_kept()
     ensures { (s : Scenario) (m : Running) (actor : Actor) → IsRunnable s → IsKept s m → IsKept s (after_turn (setting s) m actor) }
 {}
@@ -47,9 +47,9 @@ pub fn bounds_count_turns()
 {}
 
 /// What a machine leaves whose actors have ended is a legal history of pages that never move, each script
-/// call once, and the state after it; its space journal is that of the history, its lines of the host and its device
-/// journal are those of the commands, the frames out at the end are those of the mapped pages, and the plugged
-/// blocks what the device's journal leaves.
+/// call once, and the state after it; its space journal is that of the history and of the host's commands, each of these has
+/// its line, and they did what these say to the frame space and to the device; the frames out at the end are those of the mapped
+/// pages, and the plugged blocks what the device's journal leaves.
 pub fn reports_tell_legal_histories()
     ensures { (s : Scenario) (m : Running) (r : Report) → IsRunnable s → IsKept s m → HaveEnded m → IsReportAfter s m r → IsReportOf s r }
 {}

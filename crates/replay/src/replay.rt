@@ -2,11 +2,15 @@
 
 ghost use Rattle.std.specs.Prelude.{◌≡◌, ◌<◌, ◌≤◌, ◌^◌, ℕ, List, [], length, Ok, IfOk, IsSome};
 ghost use Rattle.std.specs.List.{AllByRecursion};
+ghost use Rattle.evac_model.specs.DeviceAnswer.{device_at_start};
+ghost use Rattle.evac_model.specs.HostCommands.{host_runs};
 ghost use Rattle.evac_model.specs.Scenarios.{IsRunnable, IsOwnerCall};
 ghost use Rattle.evac_model.specs.ScenarioGrammar.{call_count};
 ghost use Rattle.evac_model.specs.Turns.{turn_count};
 ghost use Rattle.evac_model.specs.declared.entry.Entry.{Entry};
+ghost use Rattle.evac_model.specs.declared.host.HostRun.{HostRun};
 ghost use Rattle.evac_model.specs.declared.scenario.Scenario.{Scenario};
+ghost use Rattle.core_actors.specs.Hosts.{host_at_start};
 ghost use Rattle.replay.specs.Keeping.{IsKept};
 ghost use Rattle.core_state.specs.declared.opening.Opening.{Opening};
 ghost use Rattle.core_state.specs.Histories.{IsHistoryOf};
@@ -26,7 +30,7 @@ use core_actors::{Host, Owner};
 use core_state::{Core, Snapshot};
 use evac_model::{
     BlockList, CallList, CommandList, Drawn, EntryList, Geometry, HostCommand, HostRunList, Kind,
-    Listed, OutOfMemory, Scenario, ScriptList, Turn, TurnList,
+    Listed, NumberList, OutOfMemory, Scenario, ScriptList, Turn, TurnList,
 };
 use machine::{Journals, Machine};
 use report::{FinalPageList, Report};
@@ -108,27 +112,24 @@ fn commands_of(alloc: Global, commands: &[HostCommand]) -> Result<CommandList, A
     Ok(Listed::from_vec(Vec::from_slice(alloc, commands)?))
 }
 
-/// What is reported of a machine beside its entries and its journals.
+/// What is reported of a machine beside its entries, the host's commands and its journals.
 #[derive(Drop)]
 struct Notes {
-    host: HostRunList,
     plugged: BlockList,
     pages: FinalPageList,
 }
 
-/// What a machine leaves beside its entries and its journals.
-fn notes_of(alloc: Global, commands: &[HostCommand], run: &Running) -> Result<Notes, OutOfMemory>
-    ensures { IfOk result (λ notes. (s : Scenario) (h : List Entry) → run.now.setting ≡ setting s → commands.now ≡ s.host → IsKept s run.now.running
-        → IsHistoryOf (opening s) run.now.running.world.snapshot.words run.now.running.world.snapshot.views h
-        → IsReportAfter s run.now.running (report_with notes h run.now.running.world.space run.now.running.world.device)) }
+/// What a machine leaves beside its entries, the host's commands and its journals.
+fn notes_of(alloc: Global, run: &Running) -> Result<Notes, OutOfMemory>
+    ensures { IfOk result (λ notes. (s : Scenario) (h : List Entry) (host : List HostRun) → run.now.setting ≡ setting s → IsKept s run.now.running
+        → IsHistoryOf (opening s) run.now.running.world.snapshot.words run.now.running.world.snapshot.views h → host ≡ host_runs s.host run.now.running.lines
+        → IsReportAfter s run.now.running (report_with notes h host run.now.running.world.space run.now.running.world.device)) }
 {
     let core = run.machine.core();
     let words = core.snapshot().words.as_slice();
-    let host = runs(alloc, commands, run.lines.as_slice())?;
     let pages = final_pages(alloc, core.opening(), words)?;
     let plugged = plugged_blocks(alloc, run.machine.plugged())?;
     Ok(Notes {
-        host: Listed::from_vec(host),
         plugged: Listed::from_vec(plugged),
         pages: Listed::from_vec(pages),
     })
@@ -151,16 +152,18 @@ fn entries_of(alloc: Global, core: Core) -> Result<EntryList, OutOfMemory>
 fn put_together(
     notes: Result<Notes, OutOfMemory>,
     entries: Result<EntryList, OutOfMemory>,
+    host: Result<HostRunList, OutOfMemory>,
     journals: Journals,
 ) -> Result<Report, OutOfMemory>
-    ensures { IfOk result (λ report. (n : Notes) × (h : List Entry) × (notes ≡ Ok n) × (entries ≡ Ok h)
-        × (report ≡ report_with n h journals.space.items journals.device.items)) }
+    ensures { IfOk result (λ report. (n : Notes) × (h : List Entry) × (l : List HostRun) × (notes ≡ Ok n) × (entries ≡ Ok h) × (host ≡ Ok l)
+        × (report ≡ report_with n h l journals.space.items journals.device.items)) }
 {
     let notes = notes?;
     let history = entries?;
+    let host = host?;
     Ok(Report {
         history,
-        host: notes.host,
+        host,
         space_journal: Listed::from_vec(journals.space),
         device_journal: Listed::from_vec(journals.device),
         plugged: notes.plugged,
@@ -174,13 +177,14 @@ fn report_of(alloc: Global, commands: &[HostCommand], run: Running) -> Result<Re
     requires ended { HaveEnded run.running }
     ensures { IfOk result (λ report. (s : Scenario) → run.setting ≡ setting s → commands.now ≡ s.host → IsKept s run.running → IsReportAfter s run.running report) }
 {
-    let notes = notes_of(alloc, commands, &run);
-    let (core, journals) = run.into_parts();
+    let notes = notes_of(alloc, &run);
+    let (core, journals, lines) = run.into_parts();
     let entries = entries_of(alloc, core);
-    put_together(notes, entries, journals)
+    let host = runs(alloc, commands, lines);
+    put_together(notes, entries, host, journals)
 }
 
-/// The machine of a scenario at its start.
+/// The machine of a scenario at its start. No call of the backing fails yet.
 fn machine_of(alloc: Global, s: &Scenario) -> Result<Machine, OutOfMemory>
     requires { IsRunnable s.now }
     ensures setting { IfOk result (λ m. m.setting ≡ setting s.now) }
@@ -194,7 +198,18 @@ fn machine_of(alloc: Global, s: &Scenario) -> Result<Machine, OutOfMemory>
         online,
         s.start.as_slice(),
         budgets.as_slice(),
+        NumberList::from_vec(Vec::new(alloc)),
     )?)
+}
+
+/// The host of a scenario at the start of its commands, beside its machine at the start.
+fn host_of(alloc: Global, s: &Scenario, machine: &Machine) -> Result<Host, OutOfMemory>
+    requires setting { machine.now.setting ≡ setting s.now }
+    requires world { machine.now.world ≡ (running_at_start s.now).world }
+    ensures { IfOk result (λ h. h.state ≡ host_at_start s.now.geometry (device_at_start s.now.geometry).plugged s.now.host) }
+{
+    let commands = commands_of(alloc, s.host.as_slice())?;
+    Host::new(alloc, s.geometry, commands, machine.plugged())
 }
 
 /// The machine of some scenario and its actors at the start, as one.
@@ -215,8 +230,8 @@ fn running(alloc: Global, s: Scenario) -> Result<Running, OutOfMemory>
     requires { IsRunnable s }
     ensures { IfOk result (λ r. r ≡ record { setting = setting s; running = running_at_start s }) }
 {
-    let host = Host::new(s.geometry, commands_of(alloc, s.host.as_slice())?);
     let machine = machine_of(alloc, &s)?;
+    let host = host_of(alloc, &s, &machine)?;
     let geometry = s.geometry;
     let owners = owners(alloc, &geometry, s.owners.into_vec())?;
     Ok(joined(alloc, machine, host, owners))
@@ -273,8 +288,8 @@ impl Replay {
 
     /// The machine of a scenario at its start, and its turns. It takes the memory of the words, of the views
     /// with room for all entries, of the frame space and what the rest of its journal needs at least, of the blocks of
-    /// the device and of the driver, of the owners' seats, and of a copy of the scenario and another of its commands
-    /// and named turns.
+    /// the device, of the driver and of the host, of the owners' seats, and of a copy of the scenario and another of its
+    /// commands and named turns.
     pub fn open(alloc: Global, s: &Scenario) -> Result<Replay, OutOfMemory>
         requires { IsRunnable s.now }
         ensures { IfOk result (λ r. r ≡ replay_of s.now) }
@@ -323,7 +338,8 @@ impl Replay {
     }
 
     /// Makes the turns of the schedule, and reports what they leave. Each answer of a call is given by
-    /// its steps. It takes the memory of the two journals and of the host's lines, turn by turn, and of the report.
+    /// its steps. It takes the memory of the two journals, of the notices of the driver's takes, and of the host's lines and the
+    /// blocks that they tell of, turn by turn, and of the report.
     pub fn run(self, alloc: Global) -> Result<Report, OutOfMemory>
         ensures run { IfOk result (λ report. (s : Scenario) → IsRunnable s → self ≡ replay_of s → IsReportOfRun s report) }
         ensures theorem { IfOk result (λ report. (s : Scenario) → IsRunnable s → self ≡ replay_of s → IsReportOf s report) }

@@ -20,7 +20,6 @@ pub(crate) struct Running {
 #[derive(Drop)]
 struct Actors {
     host: Host,
-    lines: Vec<HostLine>,
     owners: Listed<Owner>,
 }
 
@@ -42,15 +41,16 @@ impl Running {
     ghost use Rattle.replay.specs.Running.{run_after};
     ghost use Rattle.replay.specs.Runs.{AllEnded, HaveEnded};
 
-    /// The core of a machine whose actors have all ended, with an entry for each ticket drawn, and the two journals.
-    /// The memory of the rest is given back, and none is taken.
-    pub fn into_parts(self) -> (Core, Journals)
+    /// The core of a machine whose actors have all ended, with an entry for each ticket drawn, the two journals, and the
+    /// host's lines. The memory of the rest is given back, and none is taken.
+    pub fn into_parts(self) -> (Core, Journals, Vec<HostLine>)
         requires ended { HaveEnded self.running }
         ensures snapshot { result.0.snapshot ≡ self.running.world.snapshot }
         ensures words { 0 < length result.0.snapshot.words }
         ensures entries { (t : ℕ) → t < next_ticket_of result.0.snapshot.words → IsSome (entry_with t result.0.snapshot.views) }
         ensures space { result.1.space.items ≡ self.running.world.space }
         ensures device { result.1.device.items ≡ self.running.world.device }
+        ensures lines { result.2.items ≡ self.running.lines }
     {
         let Running {
             machine,
@@ -58,12 +58,9 @@ impl Running {
             lines,
             owners,
         } = self;
-        let _actors = Actors {
-            host,
-            lines,
-            owners,
-        };
-        machine.into_parts()
+        let _actors = Actors { host, owners };
+        let (core, journals) = machine.into_parts();
+        (core, journals, lines)
     }
 
     /// How many owners there are.
@@ -91,7 +88,8 @@ impl Running {
         Ok(())
     }
 
-    /// A turn of the host, whose seat is the driver's.
+    /// A turn of the host, whose seat is the driver's. Room for the line of a command, and for what comes of a block, is
+    /// made before its action.
     fn host_turn(&mut self) -> Result<(), OutOfMemory>
         ensures turned { OnOk result (self.new ≡ run_after self.old (Actor.Host ∷ [])) }
         ensures err { OnErr result (self.new ≡ self.old) }
@@ -100,16 +98,17 @@ impl Running {
             return Ok(());
         }
         self.lines.reserve(1)?;
+        self.host.make_room()?;
         let heard = self.machine.make(0, &self.host.action())?;
-        self.host.hear(&heard);
+        self.host.hear(&heard, self.machine.plugged());
         if let Some(line) = self.host.line() {
             self.lines.push_reserved(line);
         }
         Ok(())
     }
 
-    /// A turn of an actor. A lease takes the memory of the space's journal, a request that of the device's journal, and
-    /// a turn of a host that hasn't ended that of a line; where there is none, nothing changes.
+    /// A turn of an actor. It takes the memory of its action, and a turn of a host that hasn't ended that of a line and of
+    /// what comes of a block besides; where there is none, nothing changes.
     pub fn turn(&mut self, actor: Actor) -> Result<(), OutOfMemory>
         ensures turned { OnOk result (self.new ≡ run_after self.old (actor ∷ [])) }
         ensures err { OnErr result (self.new ≡ self.old) }

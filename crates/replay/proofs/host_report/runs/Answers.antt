@@ -1,26 +1,24 @@
-use Rattle.std.proofs.Common.{◌≡◌, ◌⊎◌, List, [], ◌∷◌, ◌++◌, append-nil, refl, sym, ap, ◌∙◌, ⊎_elim}
-use Rattle.std.proofs.lemmas.Slice.Zip.{either_empty_from_Zip}
+use Rattle.std.proofs.Common.{◌≡◌, List, [], ◌++◌, append-nil, sym, ap, ◌∙◌, ⊎_elim}
+use Rattle.std.proofs.lemmas.List.{nil_from_length}
 use Rattle.evac_model.specs.declared.host.HostCommand.{HostCommand}
 use Rattle.evac_model.specs.declared.host.HostLine.{HostLine}
 use Rattle.evac_model.specs.declared.host.HostRun.{HostRun}
 use Rattle.evac_model.specs.HostCommands.{host_runs}
+use Rattle.replay.proofs.HostLines.{runs_none}
 use Rattle.replay.proofs.host_report.runs.Goals as goal
 
-without_lines : (commands : List HostCommand) → host_runs commands [] ≡ []
-without_lines [] = refl
-without_lines (c ∷ cs) = refl
-
--- no runs are left where no command or no line is
-all_runs : (runs : List HostRun) (commands : List HostCommand) (lines : List HostLine) (all : List HostRun) → runs ++ host_runs commands lines ≡ all → (commands ≡ []) ⊎ (lines ≡ []) → runs ≡ all
-all_runs runs commands lines all is none =
-    let none_left : host_runs commands lines ≡ [] = ⊎_elim
-    (λ e. ap (λ (cs : List HostCommand). host_runs cs lines) e)
-    (λ e. ap (λ (ls : List HostLine). host_runs commands ls) e ∙ without_lines commands)
-    none in
-    sym (append-nil runs) ∙ (ap (λ (l : List HostRun). runs ++ l) (sym none_left) ∙ is)
+-- the runs are all where none are left
+all_runs : (runs left all : List HostRun) → runs ++ left ≡ all → left ≡ [] → runs ≡ all
+all_runs runs left all is none = sym (append-nil runs) ∙ (ap (λ (l : List HostRun). runs ++ l) (sym none) ∙ is)
 
 pub returns : goal.returns
 returns c =
     let left = c.loop-command.command-iterator in
-    all_runs c.loop-command.runs.items left.a.rest.now left.b.rest.now (host_runs c.args.commands.now c.args.lines.now) c.loop-command.invariant
-    (either_empty_from_Zip left c.next.new.self c.next.result c.in-None.is c.next.ensures.steps)
+    let commands = left.a.rest.now in
+    let lines = left.b.rest.items in
+    -- no command or no line is left
+    let none : host_runs commands lines ≡ [] = ⊎_elim
+    (λ first. ap (λ (cs : List HostCommand). host_runs cs lines) (nil_from_length commands first.1.0))
+    (λ second. ap (λ (ls : List HostLine). host_runs commands ls) (nil_from_length lines (sym left.b.rest.ok.0 ∙ second.1.0)) ∙ runs_none commands)
+    c.in-None.ensures.steps in
+    c.from_vec.ensures ∙ all_runs c.loop-command.runs.items (host_runs commands lines) (host_runs c.args.commands.now c.args.lines.items) c.loop-command.invariant none

@@ -1,4 +1,4 @@
-use Rattle.std.proofs.Common.{◌≡◌, ◌∙◌, ℕ, List, refl, ap}
+use Rattle.std.proofs.Common.{◌≡◌, ◌∙◌, ℕ, List, [], refl, ap}
 use Rattle.evac_model.specs.declared.call.Call.{Call}
 use Rattle.evac_model.specs.declared.names.Kind.{Kind}
 use Rattle.evac_model.specs.declared.names.PageNo.{PageNo}
@@ -17,8 +17,8 @@ module _ (s : Scenario) (online : Kind) (start : List StartPage) (budgets : List
   may_open : IsRunnable s → MayStart s.geometry online start budgets
   may_open r = rw (os, ss, bs) (may_start s r)
 
-  setting_with : setting_at_start s.geometry online start budgets ≡ setting s
-  setting_with = rw (os, ss, bs) (setting_is s)
+  setting_with : (fails : List ℕ) → fails ≡ [] → setting_at_start s.geometry online start budgets fails ≡ setting s
+  setting_with fails fs = rw (os, ss, bs, fs) (setting_is s)
 
   world_with : world_at_start s.geometry start budgets ≡ (running_at_start s).world
   world_with = rw (ss, bs) refl
@@ -33,6 +33,7 @@ returns-clause-setting c =
     let lengths = c.as_slice-3.ensures.value ∙ (c.in_ok-budgets.ensures ∙ ap (λ (scripts : List (List (PageNo × Call))). budgets_of scripts) c.as_slice.ensures) in
     ap (λ (m : MachineState). m.setting) c.in_ok-open.ensures
     ∙ setting_with c.args.s.now c.unwrap_or-online.result c.as_slice-2.result.now c.as_slice-3.result.now c.unwrap_or-online.ensures c.as_slice-2.ensures lengths
+    c.from_vec.result (c.from_vec.ensures ∙ c.new.ensures.items)
 
 pub returns-clause-world : goal.returns-clause-world
 returns-clause-world c =

@@ -1,6 +1,4 @@
-use Rattle.std.proofs.Common.{◌∙◌, ℕ, List, refl, sym, ap, subst}
-use Rattle.evac_model.specs.declared.host.HostCommand.{HostCommand}
-use Rattle.evac_model.specs.declared.host.HostLine.{HostLine}
+use Rattle.std.proofs.Common.{◌≡◌, ◌∙◌, ℕ, List, refl, sym, ap, subst}
 use Rattle.evac_model.specs.HostCommands.{host_runs}
 use Rattle.core_state.specs.declared.opening.Opening.{Opening}
 use Rattle.core_state.specs.declared.snapshot.Snapshot.{Snapshot}
@@ -26,17 +24,17 @@ final_pages-requires c =
     }
 
 pub returns : goal.returns
-returns c s h set commands kept history =
+returns c s h host set kept history told =
     let inside = c.run.inside in
     let words = c.as_slice-words.ensures ∙ ap (λ (x : Snapshot). x.words) (c.snapshot.ensures ∙ c.core-core.ensures.snapshot) in
     let settings = ap (λ (r : Run). r.setting) c.run.view_is ∙ set in
     let opened = c.opening.ensures.opening ∙ (c.core-core.ensures.opening ∙ ap (λ (x : Setting). x.opening) settings) in
-    subst (λ (r : Run). IsReportAfter s r.running (record { history = h; host = c.from_vec.result; space_journal = r.running.world.space; device_journal = r.running.world.device; plugged = c.from_vec-2.result; pages = c.from_vec-3.result })) c.run.view_is
+    subst (λ (r : Run). IsReportAfter s r.running (record { history = h; host = host; space_journal = r.running.world.space; device_journal = r.running.world.device; plugged = c.from_vec.result; pages = c.from_vec-2.result })) c.run.view_is
     (record {
       history = subst (λ (r : Run). IsHistoryOf (opening s) r.running.world.snapshot.words r.running.world.snapshot.views h) (sym c.run.view_is) history;
-      host = c.from_vec.ensures ∙ (c.in_ok-host.ensures ∙ (ap (λ (l : List HostCommand). host_runs l c.as_slice.result.now) commands ∙ ap (λ (l : List HostLine). host_runs s.host l) c.as_slice.ensures.value));
+      host = subst (λ (r : Run). host ≡ host_runs s.host r.running.lines) (sym c.run.view_is) told;
       space = refl;
       device = refl;
-      plugged = c.from_vec-2.ensures ∙ (c.in_ok-plugged.ensures ∙ (ap (λ (l : List ℕ). block_list l) c.plugged.ensures.plugged ∙ ap (λ (x : Setting). block_list (device_now x inside.machine.world).plugged) settings));
-      pages = c.from_vec-3.ensures ∙ (c.in_ok-pages.ensures ∙ (ap (λ (o : Opening). shown_below o c.as_slice-words.result.now o.pages) opened ∙ ap (λ (l : List ℕ). shown_below (opening s) l s.geometry.pages) words));
+      plugged = c.from_vec.ensures ∙ (c.in_ok-plugged.ensures ∙ (ap (λ (l : List ℕ). block_list l) c.plugged.ensures.plugged ∙ ap (λ (x : Setting). block_list (device_now x inside.machine.world).plugged) settings));
+      pages = c.from_vec-2.ensures ∙ (c.in_ok-pages.ensures ∙ (ap (λ (o : Opening). shown_below o c.as_slice-words.result.now o.pages) opened ∙ ap (λ (l : List ℕ). shown_below (opening s) l s.geometry.pages) words));
     })
