@@ -1,14 +1,14 @@
 -- A memory device's journal grown by actions; and requests that unplug nothing, which name no plugged block and don't ask
 -- the backing.
-use Rattle.std.proofs.Common.{◌≡◌, ℕ, Bool, false, ◌&&◌, List, [], ◌∷◌, ◌++◌, refl, ap, Option, Some, None}
+use Rattle.std.proofs.Common.{◌≡◌, ℕ, false, List, [], ◌∷◌, ◌++◌, refl, Option, Some, None}
 use Rattle.evac_model.specs.declared.device.Request.{Request}
 use Rattle.evac_model.specs.declared.device.Request.TheVariants.{Plug, Unplug, UnplugAll, State}
 use Rattle.evac_model.specs.declared.device_journal.DeviceAction.{DeviceAction}
-use Rattle.evac_model.specs.Counts.{Calls, is_listed}
-use Rattle.evac_model.specs.DeviceAnswer.{DeviceState, request_in, named_blocks, asks_backing, device_answer, after_act, device_after}
-use Rattle.evac_model.specs.DeviceJournal.{calls_after_act, calls_after, answer_to, AreAnswered}
+use Rattle.evac_model.specs.Counts.{Calls}
+use Rattle.evac_model.specs.DeviceAnswer.{DeviceState, named_blocks, asks_backing, after_act, device_after}
+use Rattle.evac_model.specs.DeviceJournal.{calls_after_act, calls_after, AreAnswered}
 use Rattle.evac_model.specs.Geometry.{Sizes}
-use Rattle.evac_model.specs.HostCommands.{unplugs, sure_answer}
+use Rattle.evac_model.specs.HostCommands.{unplugs}
 
 -- ---- requests that unplug nothing
 
@@ -25,10 +25,6 @@ asks_none s d (Some (Plug addr count)) none = refl
 asks_none s d (Some (Unplug addr count)) none = absurd (cc)
 asks_none s d (Some UnplugAll) none = absurd (cc)
 asks_none s d (Some (State addr count)) none = refl
-
-pub sure_where_none_asked : (s : Sizes) (d : DeviceState) (calls : Calls) (bytes : List ℕ) → unplugs (request_in bytes) ≡ false → answer_to s d calls bytes ≡ sure_answer s d bytes
-sure_where_none_asked s d calls bytes none =
-    ap (λ (asks : Bool). device_answer s d (asks && is_listed calls) (request_in bytes)) (asks_none s d (request_in bytes) none)
 
 -- ---- one action more
 

@@ -17,5 +17,6 @@ pub mod Unions
 pub mod Rising
 pub mod Padded
 pub mod Pairings
+pub mod Pushes
 pub mod PairedExample
 pub mod DeviceJournal

@@ -13,10 +13,11 @@ use Rattle.evac_model.specs.declared.scenario.LineCause.{LineCause}
 use Rattle.evac_model.specs.declared.scenario.LineCause.TheVariants.{Empty, Word, Later, Form, Order, Range, Page, Count}
 use Rattle.evac_model.specs.declared.scenario.ScenarioFault.{ScenarioFault}
 use Rattle.evac_model.specs.Geometry.{IsWithinLimits, IsThereAtStart, frame_count}
+use Rattle.evac_model.specs.GeometryLimits.{IsCountTo65536}
 use Rattle.evac_model.specs.Calls.{IsCallFor}
 use Rattle.evac_model.specs.FreeRuns.{fits}
 use Rattle.evac_model.specs.Turns.{IsTurn, turn_count}
-use Rattle.evac_model.specs.ScenarioLines.{Line, MachineLine, OnlineLine, PageLine, TurnsLine, DrawLine, CallLine, CommandLine, times, turns_of, Spells, words, AsksUnknown, AsksLater}
+use Rattle.evac_model.specs.ScenarioLines.{Line, MachineLine, OnlineLine, PageLine, FailLine, TurnsLine, DrawLine, CallLine, CommandLine, times, turns_of, Spells, words, AsksUnknown, AsksLater}
 
 -- A line is judged by what was accepted before it: nothing, or a scenario so far.
 
@@ -30,6 +31,7 @@ abbrev pub IsInOrder : Option Scenario → Line → Type 0
 IsInOrder None (MachineLine sizes) = Unit {0}
 IsInOrder None (OnlineLine kind) = ⊥
 IsInOrder None (PageLine page) = ⊥
+IsInOrder None (FailLine call) = ⊥
 IsInOrder None (TurnsLine turns) = ⊥
 IsInOrder None (DrawLine draw) = ⊥
 IsInOrder None (CallLine owner count page call) = ⊥
@@ -37,6 +39,7 @@ IsInOrder None (CommandLine command) = ⊥
 IsInOrder (Some s) (MachineLine sizes) = ⊥
 IsInOrder (Some s) (OnlineLine kind) = s.online ≡ None
 IsInOrder (Some s) (PageLine page) = Unit {0}
+IsInOrder (Some s) (FailLine call) = Unit {0}
 IsInOrder (Some s) (TurnsLine turns) = Unit {0}
 IsInOrder (Some s) (DrawLine draw) = s.drawn ≡ None
 IsInOrder (Some s) (CallLine owner count page call) = Unit {0}
@@ -55,6 +58,7 @@ pub record IsCallInRange (s : Scenario) (owner count page : ℕ) (call : Call) :
 abbrev pub IsInRange : Option Scenario → Line → Type 0
 IsInRange s (MachineLine sizes) = IsWithinLimits sizes
 IsInRange s (OnlineLine kind) = Unit {0}
+IsInRange s (FailLine call) = IsCountTo65536 call
 IsInRange s (TurnsLine turns) = AllByRecursion IsTurn (turns_of turns)
 IsInRange s (DrawLine draw) = draw.count ≤ 2 ^ 24
 IsInRange s (CommandLine command) = Unit {0}
@@ -76,6 +80,7 @@ IsFree s (MachineLine sizes) = Unit {0}
 IsFree s (OnlineLine kind) = Unit {0}
 IsFree None (PageLine p) = ⊥
 IsFree (Some s) (PageLine p) = IsFreeFor s p
+IsFree s (FailLine call) = Unit {0}
 IsFree s (TurnsLine turns) = Unit {0}
 IsFree s (DrawLine draw) = Unit {0}
 IsFree s (CallLine owner count page call) = Unit {0}
@@ -90,6 +95,7 @@ abbrev pub HasRoom : Option Scenario → Line → Type 0
 HasRoom s (MachineLine sizes) = Unit {0}
 HasRoom s (OnlineLine kind) = Unit {0}
 HasRoom s (PageLine p) = Unit {0}
+HasRoom s (FailLine call) = Unit {0}
 HasRoom s (DrawLine draw) = Unit {0}
 HasRoom None (TurnsLine turns) = ⊥
 HasRoom None (CallLine owner count page call) = ⊥
@@ -108,9 +114,10 @@ with_calls (script ∷ scripts) (suc (suc k)) calls = script ∷ with_calls scri
 
 -- what a line that is accepted adds
 abbrev pub after_line : Option Scenario → Line → Option Scenario
-after_line None (MachineLine sizes) = Some (record { geometry = sizes; online = None; start = []; named = []; drawn = None; owners = []; host = [] })
+after_line None (MachineLine sizes) = Some (record { geometry = sizes; online = None; start = []; fails = []; named = []; drawn = None; owners = []; host = [] })
 after_line None (OnlineLine kind) = None
 after_line None (PageLine p) = None
+after_line None (FailLine call) = None
 after_line None (TurnsLine turns) = None
 after_line None (DrawLine draw) = None
 after_line None (CallLine owner count page call) = None
@@ -118,6 +125,7 @@ after_line None (CommandLine command) = None
 after_line (Some s) (MachineLine sizes) = Some s
 after_line (Some s) (OnlineLine kind) = Some (record s { online = Some kind })
 after_line (Some s) (PageLine p) = Some (record s { start = s.start ++ p ∷ [] })
+after_line (Some s) (FailLine call) = Some (record s { fails = s.fails ++ call ∷ [] })
 after_line (Some s) (TurnsLine turns) = Some (record s { named = s.named ++ turns_of turns })
 after_line (Some s) (DrawLine draw) = Some (record s { drawn = Some draw })
 after_line (Some s) (CallLine owner count page call) =

@@ -1,8 +1,7 @@
 -- The lines of a scenario: what each is spelled as, and what its first words say.
-use Rattle.std.specs.Prelude.{◌≡◌, ◌≢◌, true, ℕ, ◌^◌, ◌<◌, ◌≤◌, ◌⊎◌, ◌==◌, List, [], ◌∷◌, ◌++◌, length, map, codes, Contains, Option, None, Some, IfSome}
+use Rattle.std.specs.Prelude.{◌≡◌, ◌≢◌, ℕ, ◌^◌, ◌<◌, ◌≤◌, ◌⊎◌, ◌==◌, List, [], ◌∷◌, ◌++◌, length, map, codes, Contains, Option, None, Some, IfSome}
 use Rattle.std.specs.List.{AllByRecursion, slice_split}
 use Rattle.std.specs.Fmt.{decimal}
-use Rattle.hex.specs.Hex.{encode_lower}
 use Rattle.evac_model.specs.declared.call.Call.{Call}
 use Rattle.evac_model.specs.declared.call.Call.TheVariants.{Alloc, Free, Read, Write, Add, Pin, Unpin}
 use Rattle.evac_model.specs.declared.host.HostCommand.{HostCommand}
@@ -13,9 +12,7 @@ use Rattle.evac_model.specs.declared.scenario.Actor.{Actor}
 use Rattle.evac_model.specs.declared.scenario.Actor.TheVariants.{Owner, Host, Scanner}
 use Rattle.evac_model.specs.declared.scenario.Turn.{Turn}
 use Rattle.evac_model.specs.declared.scenario.Drawn.{Drawn}
-use Rattle.evac_model.specs.DeviceAnswer.{request_in}
 use Rattle.evac_model.specs.Geometry.{Sizes}
-use Rattle.evac_model.specs.HostCommands.{unplugs}
 use Rattle.evac_model.specs.Spelling.{kind_word, online_word, call_words, turn_word, count_words, command_words, spaced}
 
 -- turns of an actor as a line names them: their count may be written, and else is one
@@ -28,6 +25,7 @@ pub data Line : Type 0 where
   MachineLine : (sizes : Sizes) → Line
   OnlineLine : (kind : Kind) → Line
   PageLine : (page : StartPage) → Line
+  FailLine : (call : ℕ) → Line
   TurnsLine : (turns : List NamedTurn) → Line
   DrawLine : (draw : Drawn) → Line
   CallLine : (owner : ℕ) (count : Option ℕ) (page : ℕ) (call : Call) → Line
@@ -46,6 +44,7 @@ abbrev pub words_of : Line → List (List ℕ)
 words_of (MachineLine s) = codes "machine" ∷ map decimal (s.cells ∷ s.block ∷ s.boot ∷ s.managed ∷ s.plugged ∷ s.pages ∷ [])
 words_of (OnlineLine kind) = codes "online" ∷ online_word kind ∷ []
 words_of (PageLine p) = codes "page" ∷ decimal p.page.0 ∷ kind_word p.kind ∷ decimal p.frame.0 ∷ []
+words_of (FailLine call) = codes "fail" ∷ decimal call ∷ []
 words_of (TurnsLine turns) = codes "turns" ∷ map (λ t. turn_word t.actor t.count) turns
 words_of (DrawLine d) = codes "draw" ∷ decimal d.number ∷ decimal d.count ∷ []
 words_of (CallLine owner count page call) = decimal owner ∷ count_words count ++ call_words page call
@@ -85,6 +84,7 @@ abbrev pub Fits : Line → Type 0
 Fits (MachineLine s) = AllByRecursion IsNumber (s.cells ∷ s.block ∷ s.boot ∷ s.managed ∷ s.plugged ∷ s.pages ∷ [])
 Fits (OnlineLine kind) = Unit {0}
 Fits (PageLine p) = IsNumber p.page.0 × IsNumber p.frame.0
+Fits (FailLine call) = IsNumber call
 Fits (TurnsLine turns) = (1 ≤ length turns) × AllByRecursion HasTurnNumbers turns
 Fits (DrawLine d) = IsNumber d.number × IsNumber d.count
 Fits (CallLine owner count page call) = IsNumber owner × IfSome count IsNumber × IsNumber page × HasNumbers call
@@ -109,19 +109,9 @@ call_names = codes "alloc" ∷ codes "free" ∷ codes "read" ∷ codes "write" �
 abbrev pub command_names : List (List ℕ)
 command_names = codes "resize" ∷ codes "request" ∷ codes "config" ∷ codes "join" ∷ codes "leave" ∷ codes "migrate" ∷ codes "cancel" ∷ codes "finish" ∷ []
 
--- those that this program doesn't read yet
-abbrev pub later_lines : List (List ℕ)
-later_lines = codes "fail" ∷ []
-
+-- those of commands that this program doesn't read yet
 abbrev pub later_commands : List (List ℕ)
 later_commands = codes "resize" ∷ codes "join" ∷ codes "leave" ∷ codes "migrate" ∷ codes "cancel" ∷ codes "finish" ∷ []
-
--- the words of a request that unplugs blocks, which isn't made yet
-pub record IsLaterRequest (words : List (List ℕ)) : Type 0 where
-  pub bytes : List ℕ
-  pub spelled : words ≡ codes "request" ∷ encode_lower bytes ∷ []
-  pub fits : AllByRecursion (λ b. b < 256) bytes
-  pub later : unplugs (request_in bytes) ≡ true
 
 -- an owner's number: the decimal text of a number
 abbrev pub IsOwnerWord : List ℕ → Type 0
@@ -155,5 +145,4 @@ AsksUnknown (word ∷ rest) =
 -- what the line asks for isn't read yet
 abbrev pub AsksLater : List (List ℕ) → Type 0
 AsksLater [] = ⊥
-AsksLater (word ∷ rest) =
-    Contains later_lines word ⊎ ((word ≡ codes "host") × (First (Contains later_commands) rest ⊎ IsLaterRequest rest))
+AsksLater (word ∷ rest) = (word ≡ codes "host") × First (Contains later_commands) rest

@@ -3,7 +3,7 @@
 use crate::call::Call;
 use crate::geometry::Geometry;
 use crate::host::CommandList;
-use crate::list::Listed;
+use crate::list::{Listed, NumberList};
 use crate::names::{FrameNo, Kind, PageNo};
 
 /// A page that is mapped at the start, with zeros in its cells and no pins.
@@ -68,6 +68,9 @@ pub struct Scenario {
     pub online: Option<Kind>,
     /// The pages that are mapped at the start.
     pub start: StartPageList,
+    /// The calls of the memory device's backing that fail, counted from 1, in the order of their lines; one that
+    /// is listed more than once fails once.
+    pub fails: NumberList,
     /// The turns that are named, before all others.
     pub named: TurnList,
     /// The turns that are drawn, behind the named ones.
@@ -85,8 +88,7 @@ pub enum LineCause {
     Empty,
     /// The word that says what the line asks for is none that scenarios have.
     Word,
-    /// The line asks for what scenarios have and this program doesn't do yet: by a word of that kind,
-    /// or by a request of the host that unplugs.
+    /// The line asks for what scenarios have and this program doesn't do yet, by the word of a command of the host.
     Later,
     /// The line isn't spelled as one of its kind.
     Form,

@@ -45,7 +45,7 @@ use Rattle.machine.proofs.TargetsKept.{target_out}
 owner_not_free : (c : Setting) (seat : ℕ) → IsOwnerSeat c seat → seat ≢ free_seat c
 owner_not_free c seat owner = let high = owner.1 in omega arith
 
-owner_not_driver : (c : Setting) (seat : ℕ) → IsOwnerSeat c seat → seat ≢ 0
+pub owner_not_driver : (c : Setting) (seat : ℕ) → IsOwnerSeat c seat → seat ≢ 0
 owner_not_driver c seat owner = let low = owner.0 in omega arith
 
 -- the driver alone asks for a block

@@ -1,21 +1,15 @@
 -- What the words of a line ask for is what the grammar says.
-use Rattle.std.proofs.Common.{◌≡◌, ◌≢◌, ℕ, true, ◌||◌, ◌&&◌, cond, List, [], ◌∷◌, length, Option, None, Some, refl, inl, inr, ◌⊎◌, sym, ap, ◌∙◌, subst, is_some, arith}
-use Rattle.std.specs.Prelude.{Contains, slice_index_or, ◌==◌, codes}
+use Rattle.std.proofs.Common.{◌≡◌, ◌≢◌, ℕ, ◌||◌, cond, List, [], ◌∷◌, length, None, refl, inl, inr, sym, ap, ◌∙◌, subst, is_some}
+use Rattle.std.specs.Prelude.{Contains, ◌==◌, codes}
 use Rattle.std.specs.Str.{bytes_eq}
-use Rattle.std.proofs.lemmas.Bool.{and_parts, and_from, both_ways, cases_Bool, cond_both, cond-false, eq-eqb, eqb-true, eqb-false}
+use Rattle.std.proofs.lemmas.Bool.{cond_both, eqb-true, eqb-false}
 use Rattle.std.proofs.lemmas.Option.{none-some}
-use Rattle.std.proofs.lemmas.List.{nil_from_length}
-use Rattle.hex.specs.Hex.{encode_lower}
-use Rattle.evac_model.specs.DeviceAnswer.{request_in}
-use Rattle.evac_model.specs.HostCommands.{unplugs}
-use Rattle.evac_model.specs.ScenarioLines.{line_names, later_lines, call_names, command_names, later_commands, IsLaterRequest, IsOwnerWord, IsNoneOf, First, BeginsWithX, CallWord, AsksUnknown, AsksLater}
+use Rattle.evac_model.specs.ScenarioLines.{line_names, call_names, command_names, later_commands, IsOwnerWord, IsNoneOf, First, BeginsWithX, CallWord, AsksUnknown, AsksLater}
 use Rattle.scenario.specs.declared.ask.Ask.{Ask}
 use Rattle.scenario.specs.declared.ask.Ask.TheVariants.{Unknown, Later, Read}
 use Rattle.scenario.specs.Numbers.{number_of}
 use Rattle.scenario.specs.Words.{is_one_of}
-use Rattle.scenario.specs.Asking.{ask_of_call, ask_behind_count, ask_of_owner, are_unplugging, unplugs_by, ask_of_request, ask_of_command, ask_of_host, ask_of_words}
-use Rattle.scenario.specs.Reading.{hex_bytes}
-use Rattle.scenario.proofs.HexWords.{hex_is, hex_again}
+use Rattle.scenario.specs.Asking.{ask_of_call, ask_behind_count, ask_of_owner, ask_of_command, ask_of_host, ask_of_words}
 use Rattle.scenario.proofs.Numerals.{number_is, no_owner}
 use Rattle.scenario.proofs.Names.{same_text, other_text, one_of, none_of, each_name, is_none, isnt_none}
 use Rattle.evac_model.proofs.Options.{none_from_test, some_from_test}
@@ -77,16 +71,10 @@ owner_tells ((b ∷ bs) ∷ rest) =
 
 -- ---- the first word
 
-later_writes_none : (word : List ℕ) → Contains later_lines word → number_of word ≡ None
-later_writes_none word c = each_name (λ w. number_of w ≡ None) later_lines word (refl, tt) c
-
-later_is_line : (word : List ℕ) → Contains later_lines word → Contains line_names word
-later_is_line word c = each_name (Contains line_names) later_lines word (one_of line_names (codes "fail") refl, tt) c
-
 says_of_owner : (word : List ℕ) (rest : List (List ℕ)) (a : Ask) → IsOwnerWord word → (number_of word ≡ None → ⊥) → Tells (OwnerUnknown rest) a → Says (word ∷ rest) a
 says_of_owner word rest Unknown owner some t = inr (inl (owner, t))
 says_of_owner word rest Later owner some t = absurd t
-says_of_owner word rest Read owner some t = (λ u. elim u [ inl n ↦ n.1 owner | inr h ↦ elim h [ inl c ↦ t c.1 | inr k ↦ some (ap number_of k.0) ] ], λ l. elim l [ inl c ↦ some (later_writes_none word c) | inr k ↦ some (ap number_of k.0) ])
+says_of_owner word rest Read owner some t = (λ u. elim u [ inl n ↦ n.1 owner | inr h ↦ elim h [ inl c ↦ t c.1 | inr k ↦ some (ap number_of k.0) ] ], λ l. some (ap number_of l.0))
 
 not_unknown : (word : List ℕ) (rest : List (List ℕ)) → number_of word ≡ None → ¬ IsNoneOf line_names word → (word ≡ codes "host" → First (IsNoneOf command_names) rest → ⊥) → ¬ AsksUnknown (word ∷ rest)
 not_unknown word rest none line host u = elim u [ inl n ↦ line n.0 | inr h ↦ elim h [ inl c ↦ no_owner word none c.0 | inr k ↦ host k.0 k.1 ] ]
@@ -97,7 +85,7 @@ abbrev HostUnknown : List (List ℕ) → Type 0
 HostUnknown rest = First (IsNoneOf command_names) rest
 
 abbrev HostLater : List (List ℕ) → Type 0
-HostLater rest = First (Contains later_commands) rest ⊎ IsLaterRequest rest
+HostLater rest = First (Contains later_commands) rest
 
 -- behind the word of the host
 abbrev HostSays : List (List ℕ) → Ask → Type 0
@@ -111,92 +99,38 @@ later_is_command word c =
     (one_of command_names (codes "resize") refl, (one_of command_names (codes "join") refl, (one_of command_names (codes "leave") refl, (one_of command_names (codes "migrate") refl, (one_of command_names (codes "cancel") refl, (one_of command_names (codes "finish") refl, tt))))))
     c
 
--- a request that comes later begins with its name
-begins : (word : List ℕ) (rest : List (List ℕ)) → IsLaterRequest (word ∷ rest) → word ≡ codes "request"
-begins word rest r = ap (λ (ws : List (List ℕ)). slice_index_or ws 0 []) r.spelled
-
-command_says : (word : List ℕ) (rest : List (List ℕ)) → word ≢ codes "request" → HostSays (word ∷ rest) (ask_of_command word)
-command_says word rest other =
+command_says : (word : List ℕ) (rest : List (List ℕ)) → HostSays (word ∷ rest) (ask_of_command word)
+command_says word rest =
     cond_both (is_one_of later_commands word) Later (cond (length word == 0 || is_one_of command_names word) Read Unknown) (HostSays (word ∷ rest))
-    (λ e. let later = one_of later_commands word e in (λ n. n.1 (later_is_command word later), inl later))
+    (λ e. let later = one_of later_commands word e in (λ n. n.1 (later_is_command word later), later))
     (λ e. cond_both (length word == 0 || is_one_of command_names word) Read Unknown (HostSays (word ∷ rest))
-    (λ f. (isnt_none command_names word f, λ l. elim l [ inl c ↦ none_of later_commands word e c | inr r ↦ other (begins word rest r) ]))
+    (λ f. (isnt_none command_names word f, none_of later_commands word e))
     (λ f. is_none command_names word f))
 
--- bytes that unplug are 24
-are_24 : (bytes : List ℕ) → unplugs (request_in bytes) ≡ true → length bytes ≡ 24
-are_24 bytes e = elim (cases_Bool (length bytes == 24)) [
-  | inl same ↦ eqb-true (length bytes) 24 same
-  | inr other ↦
-      let none : request_in bytes ≡ None = cond-false (length bytes == 24) _ None other in
-      absurd (both_ways (unplugs (request_in bytes)) (ap unplugs none) e)
-]
-
--- a word that unplugs is that of a request that comes later
-unplugging : (word : List ℕ) (o : Option (List ℕ)) → hex_bytes word ≡ o → are_unplugging o ≡ true → IsLaterRequest (codes "request" ∷ word ∷ [])
-unplugging word None e h = absurd cc
-unplugging word (Some bytes) e h =
-    let is = hex_is word bytes e in
-    record { bytes = bytes; spelled = ap (λ (w : List ℕ). codes "request" ∷ w ∷ []) is.spelled; fits = is.fit; later = h }
-
--- and the converse
-unplugs_again : (name word : List ℕ) (more : List (List ℕ)) → IsLaterRequest (name ∷ word ∷ more) → (length more == 0 && unplugs_by word) ≡ true
-unplugs_again name word more r =
-    let n = ap (λ (ws : List (List ℕ)). length ws) r.spelled in
-    let is : word ≡ encode_lower r.bytes = ap (λ (ws : List (List ℕ)). slice_index_or ws 1 []) r.spelled in
-    let few = are_24 r.bytes r.later in
-    let ended : length more ≡ 0 = omega (arith, n) in
-    let read : hex_bytes word ≡ Some r.bytes = ap hex_bytes is ∙ hex_again r.bytes (omega (arith, few)) r.fits in
-    and_from (length more == 0) (unplugs_by word) (eq-eqb (length more) 0 ended) (ap are_unplugging read ∙ r.later)
-
-request_known : ¬ IsNoneOf command_names (codes "request")
-request_known n = n.1 (one_of command_names (codes "request") refl)
-
-request_not_later : ¬ Contains later_commands (codes "request")
-request_not_later = none_of later_commands (codes "request") refl
-
-request_says : (rest : List (List ℕ)) → HostSays (codes "request" ∷ rest) (ask_of_request rest)
-request_says [] = (request_known, λ l. elim l [ inl c ↦ request_not_later c | inr r ↦ let n = ap (λ (ws : List (List ℕ)). length ws) r.spelled in absurd (omega (arith, n)) ])
-request_says (word ∷ more) =
-    cond_both (length more == 0 && unplugs_by word) Later Read (HostSays (codes "request" ∷ word ∷ more))
-    (λ e.
-    let parts = and_parts (length more == 0) (unplugs_by word) e in
-    let none = nil_from_length more (eqb-true (length more) 0 parts.0) in
-    (request_known, inr (subst (λ (ws : List (List ℕ)). IsLaterRequest (codes "request" ∷ word ∷ ws)) (sym none) (unplugging word (hex_bytes word) refl parts.1))))
-    (λ e. (request_known, λ l. elim l [ inl c ↦ request_not_later c | inr r ↦ both_ways (length more == 0 && unplugs_by word) e (unplugs_again (codes "request") word more r) ]))
-
 host_tells : (rest : List (List ℕ)) → HostSays rest (ask_of_host rest)
-host_tells [] = (λ u. u, λ l. elim l [ inl f ↦ f | inr r ↦ let n = ap (λ (ws : List (List ℕ)). length ws) r.spelled in absurd (omega (arith, n)) ])
-host_tells (word ∷ rest) =
-    cond_both (bytes_eq word (codes "request")) (ask_of_request rest) (ask_of_command word) (HostSays (word ∷ rest))
-    (λ e. rw (same_text word (codes "request") e) (request_says rest))
-    (λ e. command_says word rest (other_text word (codes "request") e))
+host_tells [] = (λ u. u, λ l. l)
+host_tells (word ∷ rest) = command_says word rest
 
 host_is_line : (word : List ℕ) → word ≡ codes "host" → ¬ IsNoneOf line_names word
 host_is_line word e n = n.1 (subst (Contains line_names) (sym e) (one_of line_names (codes "host") refl))
 
-host_not_later : (word : List ℕ) → word ≡ codes "host" → ¬ Contains later_lines word
-host_not_later word e c = none_of later_lines (codes "host") refl (subst (Contains later_lines) e c)
-
 host_says : (word : List ℕ) (rest : List (List ℕ)) (a : Ask) → number_of word ≡ None → word ≡ codes "host" → HostSays rest a → Says (word ∷ rest) a
 host_says word rest Unknown none e h = inr (inr (e, h))
-host_says word rest Later none e h = (not_unknown word rest none (host_is_line word e) (λ _ u. h.0 u), inr (e, h.1))
-host_says word rest Read none e h = (not_unknown word rest none (host_is_line word e) (λ _ u. h.0 u), λ l. elim l [ inl c ↦ host_not_later word e c | inr k ↦ h.1 k.1 ])
+host_says word rest Later none e h = (not_unknown word rest none (host_is_line word e) (λ _ u. h.0 u), (e, h.1))
+host_says word rest Read none e h = (not_unknown word rest none (host_is_line word e) (λ _ u. h.0 u), λ l. h.1 l.1)
 
 -- ---- the first word of other lines
 
-name_says : (word : List ℕ) (rest : List (List ℕ)) → number_of word ≡ None → word ≢ codes "host" → Says (word ∷ rest) (cond (is_one_of later_lines word) Later (cond (length word == 0 || is_one_of line_names word) Read Unknown))
+name_says : (word : List ℕ) (rest : List (List ℕ)) → number_of word ≡ None → word ≢ codes "host" → Says (word ∷ rest) (cond (length word == 0 || is_one_of line_names word) Read Unknown)
 name_says word rest none other =
-    cond_both (is_one_of later_lines word) Later (cond (length word == 0 || is_one_of line_names word) Read Unknown) (Says (word ∷ rest))
-    (λ e. let later = one_of later_lines word e in (not_unknown word rest none (λ n. n.1 (later_is_line word later)) (λ h c. other h), inl later))
-    (λ e. cond_both (length word == 0 || is_one_of line_names word) Read Unknown (Says (word ∷ rest))
-    (λ f. (not_unknown word rest none (isnt_none line_names word f) (λ h c. other h), λ l. elim l [ inl c ↦ none_of later_lines word e c | inr k ↦ other k.0 ]))
-    (λ f. inl (is_none line_names word f, no_owner word none)))
+    cond_both (length word == 0 || is_one_of line_names word) Read Unknown (Says (word ∷ rest))
+    (λ f. (not_unknown word rest none (isnt_none line_names word f) (λ h c. other h), λ l. other l.0))
+    (λ f. inl (is_none line_names word f, no_owner word none))
 
 pub words_say : (ws : List (List ℕ)) → Says ws (ask_of_words ws)
 words_say [] = (λ u. u, λ l. l)
 words_say (word ∷ rest) =
-    let others = cond (bytes_eq word (codes "host")) (ask_of_host rest) (cond (is_one_of later_lines word) Later (cond (length word == 0 || is_one_of line_names word) Read Unknown)) in
+    let others = cond (bytes_eq word (codes "host")) (ask_of_host rest) (cond (length word == 0 || is_one_of line_names word) Read Unknown) in
     cond_both (is_some (number_of word)) (ask_of_owner rest) others (Says (word ∷ rest))
     (λ e.
     let n = some_from_test (number_of word) e in
@@ -204,6 +138,6 @@ words_say (word ∷ rest) =
     says_of_owner word rest (ask_of_owner rest) (n.0, is.0, is.1) (λ none. none-some n.0 (sym none ∙ n.1)) (owner_tells rest))
     (λ e.
     let none = none_from_test (number_of word) e in
-    cond_both (bytes_eq word (codes "host")) (ask_of_host rest) (cond (is_one_of later_lines word) Later (cond (length word == 0 || is_one_of line_names word) Read Unknown)) (Says (word ∷ rest))
+    cond_both (bytes_eq word (codes "host")) (ask_of_host rest) (cond (length word == 0 || is_one_of line_names word) Read Unknown) (Says (word ∷ rest))
     (λ f. host_says word rest (ask_of_host rest) none (same_text word (codes "host") f) (host_tells rest))
     (λ f. name_says word rest none (other_text word (codes "host") f)))

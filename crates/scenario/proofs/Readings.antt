@@ -16,9 +16,9 @@ use Rattle.evac_model.specs.declared.scenario.StartPage.{StartPage}
 use Rattle.evac_model.specs.declared.scenario.Drawn.{Drawn}
 use Rattle.evac_model.specs.Geometry.{Sizes}
 use Rattle.evac_model.specs.Spelling.{kind_word, online_word, call_words, turn_word, count_words, command_words}
-use Rattle.evac_model.specs.ScenarioLines.{Line, NamedTurn, MachineLine, OnlineLine, PageLine, TurnsLine, DrawLine, CallLine, CommandLine, words_of, IsNumber, HasNumbers, HasTurnNumbers, HasBytes, Fits}
+use Rattle.evac_model.specs.ScenarioLines.{Line, NamedTurn, MachineLine, OnlineLine, PageLine, FailLine, TurnsLine, DrawLine, CallLine, CommandLine, words_of, IsNumber, HasNumbers, HasTurnNumbers, HasBytes, Fits}
 use Rattle.scenario.specs.Numbers.{number_of}
-use Rattle.scenario.specs.Reading.{◌>>=◌, number_at, kind_of, kind_at, online_of_word, online_at, ended, values_of, machine_of, online_kind_of, page_of, draw_of, turns_of, turns_line_of, count_at, alloc_of, read_of, write_of, add_of, named_call, call_of, call_line_of, hex_bytes, request_of, command_of, plain_line_of, line_of}
+use Rattle.scenario.specs.Reading.{◌>>=◌, number_at, kind_of, kind_at, online_of_word, online_at, ended, values_of, machine_of, online_kind_of, page_of, fail_of, draw_of, turns_of, turns_line_of, count_at, alloc_of, read_of, write_of, add_of, named_call, call_of, call_line_of, hex_bytes, request_of, command_of, plain_line_of, line_of}
 use Rattle.scenario.proofs.Numerals.{number_is, number_again}
 use Rattle.scenario.proofs.Names.{same_text}
 use Rattle.scenario.proofs.HexWords.{hex_is, hex_again}
@@ -144,6 +144,15 @@ page_read ws p e =
     let rc = number_read b.0.1 c.0 c.1 in
     let whole : codes "page" ∷ ws ≡ codes "page" ∷ decimal a.0.0 ∷ kind_word b.0.0 ∷ decimal c.0.0 ∷ [] = ap (λ (t : List (List ℕ)). codes "page" ∷ t) (followed ra.0 (followed rb (followed rc.0 made.0))) in
     subst (λ (q : StartPage). Spelled (codes "page" ∷ ws) (PageLine q)) made.1 (whole, (ra.1, rc.1))
+
+fail_read : (ws : List (List ℕ)) (call : ℕ) → fail_of ws ≡ Some call → Spelled (codes "fail" ∷ ws) (FailLine call)
+unfolding fail_of
+fail_read ws call e =
+    let a = bind_some (number_at ws) _ call e in
+    let made = ended_is a.0.0 call a.0.1 a.2 in
+    let ra = number_read ws a.0 a.1 in
+    let whole : codes "fail" ∷ ws ≡ codes "fail" ∷ decimal a.0.0 ∷ [] = ap (λ (t : List (List ℕ)). codes "fail" ∷ t) (followed ra.0 made.0) in
+    subst (λ (n : ℕ). Spelled (codes "fail" ∷ ws) (FailLine n)) made.1 (whole, ra.1)
 
 draw_read : (ws : List (List ℕ)) (d : Drawn) → draw_of ws ≡ Some d → Spelled (codes "draw" ∷ ws) (DrawLine d)
 unfolding draw_of
@@ -349,7 +358,8 @@ plain_line_read word rest line e =
     let owners = number_of word >>= λ owner. call_line_of owner rest in
     let hosts = cond (bytes_eq word (codes "host")) (command_of rest >>= λ command. Some (CommandLine command)) owners in
     let draws = cond (bytes_eq word (codes "draw")) (draw_of rest >>= λ draw. Some (DrawLine draw)) hosts in
-    let pages = cond (bytes_eq word (codes "page")) (page_of rest >>= λ page. Some (PageLine page)) draws in
+    let fails = cond (bytes_eq word (codes "fail")) (fail_of rest >>= λ call. Some (FailLine call)) draws in
+    let pages = cond (bytes_eq word (codes "page")) (page_of rest >>= λ page. Some (PageLine page)) fails in
     let onlines = cond (bytes_eq word (codes "online")) (online_kind_of rest >>= λ kind. Some (OnlineLine kind)) pages in
     elim (chosen (bytes_eq word (codes "machine")) (machine_of rest >>= λ sizes. Some (MachineLine sizes)) onlines (Some line) e) [
       | inl h ↦
@@ -359,23 +369,28 @@ plain_line_read word rest line e =
         | inl h ↦
             let k = bind_some (online_kind_of rest) (λ kind. Some (OnlineLine kind)) line h.1 in
             rw (same_text word (codes "online") h.0) (subst (λ (l : Line). Spelled (codes "online" ∷ rest) l) (same_Some (OnlineLine k.0) line k.2) (online_read rest k.0 k.1))
-        | inr h ↦ elim (chosen (bytes_eq word (codes "page")) (page_of rest >>= λ page. Some (PageLine page)) draws (Some line) h.1) [
+        | inr h ↦ elim (chosen (bytes_eq word (codes "page")) (page_of rest >>= λ page. Some (PageLine page)) fails (Some line) h.1) [
           | inl h ↦
               let p = bind_some (page_of rest) (λ page. Some (PageLine page)) line h.1 in
               rw (same_text word (codes "page") h.0) (subst (λ (l : Line). Spelled (codes "page" ∷ rest) l) (same_Some (PageLine p.0) line p.2) (page_read rest p.0 p.1))
-          | inr h ↦ elim (chosen (bytes_eq word (codes "draw")) (draw_of rest >>= λ draw. Some (DrawLine draw)) hosts (Some line) h.1) [
+          | inr h ↦ elim (chosen (bytes_eq word (codes "fail")) (fail_of rest >>= λ call. Some (FailLine call)) draws (Some line) h.1) [
             | inl h ↦
-                let d = bind_some (draw_of rest) (λ draw. Some (DrawLine draw)) line h.1 in
-                rw (same_text word (codes "draw") h.0) (subst (λ (l : Line). Spelled (codes "draw" ∷ rest) l) (same_Some (DrawLine d.0) line d.2) (draw_read rest d.0 d.1))
-            | inr h ↦ elim (chosen (bytes_eq word (codes "host")) (command_of rest >>= λ command. Some (CommandLine command)) owners (Some line) h.1) [
+                let k = bind_some (fail_of rest) (λ call. Some (FailLine call)) line h.1 in
+                rw (same_text word (codes "fail") h.0) (subst (λ (l : Line). Spelled (codes "fail" ∷ rest) l) (same_Some (FailLine k.0) line k.2) (fail_read rest k.0 k.1))
+            | inr h ↦ elim (chosen (bytes_eq word (codes "draw")) (draw_of rest >>= λ draw. Some (DrawLine draw)) hosts (Some line) h.1) [
               | inl h ↦
-                  let c = bind_some (command_of rest) (λ command. Some (CommandLine command)) line h.1 in
-                  let read = command_read rest c.0 c.1 in
-                  rw (same_text word (codes "host") h.0) (subst (λ (l : Line). Spelled (codes "host" ∷ rest) l) (same_Some (CommandLine c.0) line c.2) (ap (λ (t : List (List ℕ)). codes "host" ∷ t) read.0, read.1))
-              | inr h ↦
-                  let owner = bind_some (number_of word) (λ owner. call_line_of owner rest) line h.1 in
-                  let is = number_is word owner.0 owner.1 in
-                  rw is.1 (call_line_read owner.0 rest line is.0 owner.2)
+                  let d = bind_some (draw_of rest) (λ draw. Some (DrawLine draw)) line h.1 in
+                  rw (same_text word (codes "draw") h.0) (subst (λ (l : Line). Spelled (codes "draw" ∷ rest) l) (same_Some (DrawLine d.0) line d.2) (draw_read rest d.0 d.1))
+              | inr h ↦ elim (chosen (bytes_eq word (codes "host")) (command_of rest >>= λ command. Some (CommandLine command)) owners (Some line) h.1) [
+                | inl h ↦
+                    let c = bind_some (command_of rest) (λ command. Some (CommandLine command)) line h.1 in
+                    let read = command_read rest c.0 c.1 in
+                    rw (same_text word (codes "host") h.0) (subst (λ (l : Line). Spelled (codes "host" ∷ rest) l) (same_Some (CommandLine c.0) line c.2) (ap (λ (t : List (List ℕ)). codes "host" ∷ t) read.0, read.1))
+                | inr h ↦
+                    let owner = bind_some (number_of word) (λ owner. call_line_of owner rest) line h.1 in
+                    let is = number_is word owner.0 owner.1 in
+                    rw is.1 (call_line_read owner.0 rest line is.0 owner.2)
+              ]
             ]
           ]
         ]
@@ -443,7 +458,7 @@ call_line_again owner count page call k p h = rw (count_again count page call k,
 
 owner_again : (owner : ℕ) (rest : List (List ℕ)) → IsNumber owner → line_of (decimal owner ∷ rest) ≡ call_line_of owner rest
 unfolding line_of plain_line_of
-owner_again owner rest lt = rw (number_is_no_name owner (codes "turns") lt refl, number_is_no_name owner (codes "machine") lt refl, number_is_no_name owner (codes "online") lt refl, number_is_no_name owner (codes "page") lt refl, number_is_no_name owner (codes "draw") lt refl, number_is_no_name owner (codes "host") lt refl, number_again owner lt) refl
+owner_again owner rest lt = rw (number_is_no_name owner (codes "turns") lt refl, number_is_no_name owner (codes "machine") lt refl, number_is_no_name owner (codes "online") lt refl, number_is_no_name owner (codes "page") lt refl, number_is_no_name owner (codes "fail") lt refl, number_is_no_name owner (codes "draw") lt refl, number_is_no_name owner (codes "host") lt refl, number_again owner lt) refl
 
 command_again : (c : HostCommand) → HasBytes c → command_of (command_words c) ≡ Some c
 unfolding command_of request_of
@@ -451,10 +466,11 @@ command_again (commands.Request bytes) h = rw (hex_again bytes h.1 h.2, ne_eqb (
 command_again commands.Config h = refl
 
 pub line_again : (line : Line) → Fits line → line_of (words_of line) ≡ Some line
-unfolding line_of plain_line_of machine_of draw_of
+unfolding line_of plain_line_of machine_of fail_of draw_of
 line_again (MachineLine s) fits = rw (number_again s.cells fits.0, number_again s.block fits.1.0, number_again s.boot fits.1.1.0, number_again s.managed fits.1.1.1.0, number_again s.plugged fits.1.1.1.1.0, number_again s.pages fits.1.1.1.1.1.0) refl
 line_again (OnlineLine kind) fits = ap (λ o. o >>= λ k. Some (OnlineLine k)) (online_again kind)
 line_again (PageLine p) fits = ap (λ o. o >>= λ page. Some (PageLine page)) (page_again p.page.0 p.kind p.frame.0 fits.0 fits.1)
+line_again (FailLine call) fits = rw (number_again call fits) refl
 line_again (TurnsLine turns) fits = turns_line_again turns fits.0 fits.1
 line_again (DrawLine d) fits = rw (number_again d.number fits.0, number_again d.count fits.1) refl
 line_again (CallLine owner count page call) fits =

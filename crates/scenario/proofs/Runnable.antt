@@ -1,6 +1,6 @@
 -- A scenario that is read can be run.
-use Rattle.std.proofs.Common.{ℕ, zero, suc, ◌≤◌, Bool, true, false, List, [], ◌∷◌, ◌++◌, length, map, Option, Some, None, Result, Ok, Err, refl, inr, sym, subst, arith, replicate}
-use Rattle.std.specs.Prelude.{◌≡◌, IfOk, MatchBool, Contains, codes, nat_eq}
+use Rattle.std.proofs.Common.{ℕ, zero, suc, ◌≤◌, Bool, true, false, List, [], ◌∷◌, ◌++◌, length, map, Option, Some, None, Result, Ok, Err, refl, sym, subst, arith, replicate}
+use Rattle.std.specs.Prelude.{◌≡◌, IfOk, MatchBool, Contains, nat_eq}
 use Rattle.std.specs.Option.{unwrap_or}
 use Rattle.std.specs.List.{AllByRecursion, IsDistinct, list_any}
 use Rattle.std.proofs.lemmas.Bool.{false_from_ne_true}
@@ -8,9 +8,6 @@ use Rattle.std.proofs.lemmas.Cmp.{nat_eq_equiv}
 use Rattle.std.proofs.lemmas.List.{map_push, length_push, length-replicate}
 use Rattle.std.proofs.lemmas.Map.Keys.{IsDistinct-push}
 use Rattle.std.specs.Str.Lines.{lines}
-use Rattle.hex.specs.Hex.{encode_lower}
-use Rattle.evac_model.specs.declared.host.HostCommand.{HostCommand}
-use Rattle.evac_model.specs.declared.host.HostCommand.TheVariants.{Request, Config}
 use Rattle.evac_model.specs.declared.names.Kind.{Kind}
 use Rattle.evac_model.specs.declared.names.Kind.TheVariants.{Movable, Unmovable}
 use Rattle.evac_model.specs.declared.names.PageNo.{PageNo}
@@ -18,18 +15,15 @@ use Rattle.evac_model.specs.declared.call.Call.{Call}
 use Rattle.evac_model.specs.declared.scenario.Scenario.{Scenario}
 use Rattle.evac_model.specs.declared.scenario.StartPage.{StartPage}
 use Rattle.evac_model.specs.Geometry.{Sizes}
-use Rattle.evac_model.specs.DeviceAnswer.{request_in}
 use Rattle.evac_model.specs.FreeRuns.{fits}
-use Rattle.evac_model.specs.HostCommands.{unplugs}
 use Rattle.evac_model.specs.StartPages.{AreStartPages, IsStartPage}
 use Rattle.evac_model.specs.Turns.{IsTurn}
-use Rattle.evac_model.specs.ScenarioLines.{Line, MachineLine, OnlineLine, PageLine, TurnsLine, DrawLine, CallLine, CommandLine, times, turns_of, words, AsksLater}
-use Rattle.evac_model.specs.ScenarioGrammar.{Reads, Accepts, Leads, online_of, is_ignored, after_line, with_calls, IsScenarioText}
+use Rattle.evac_model.specs.ScenarioLines.{Line, MachineLine, OnlineLine, PageLine, FailLine, TurnsLine, DrawLine, CallLine, CommandLine, HasBytes, times, turns_of}
+use Rattle.evac_model.specs.ScenarioGrammar.{Accepts, Leads, online_of, is_ignored, after_line, with_calls, IsScenarioText}
 use Rattle.scenario.specs.declared.error.ScenarioError.{ScenarioError}
 use Rattle.scenario.specs.Outcomes.{IsOutcome}
-use Rattle.evac_model.specs.Scenarios.{IsRunnable, IsOwnerCall, IsHostCommand, IsBuilt}
+use Rattle.evac_model.specs.Scenarios.{IsRunnable, IsOwnerCall}
 use Rattle.scenario.proofs.Scripts.{call_count-with_calls}
-use Rattle.scenario.proofs.Spellings.{spelled_words}
 use Rattle.scenario.proofs.Tables.{Contains-from_any}
 use Rattle.scenario.proofs.TurnLists.{turn_count-both}
 
@@ -90,18 +84,11 @@ no_pages : (sizes : Sizes) → AreStartPages sizes []
 unfolding IsDistinct
 no_pages sizes = record { each = tt; pages = tt; frames = tt }
 
--- a request that unplugs isn't read
-is_built : (text : List ℕ) (command : HostCommand) → Reads text (CommandLine command) → IsBuilt command
-is_built text (Request bytes) r =
-    let words_are : words text ≡ codes "host" ∷ codes "request" ∷ encode_lower bytes ∷ [] = spelled_words text (CommandLine (Request bytes)) r.spelled in
-    let asks : ¬ AsksLater (codes "host" ∷ codes "request" ∷ encode_lower bytes ∷ []) = subst (λ (ws : List (List ℕ)). ¬ AsksLater ws) words_are r.built in
-    false_from_ne_true (unplugs (request_in bytes)) (λ later. asks (inr (refl, inr (record { bytes = bytes; spelled = refl; fits = r.spelled.fits.2; later = later }))))
-is_built text Config r = tt
-
 runs_on : (s : Option Scenario) (text : List ℕ) (line : Line) → Accepts s text line → Runs s → Runs (after_line s line)
 runs_on None text (MachineLine sizes) a r = record { limits = a.range; start = no_pages sizes; kinds = tt; named = tt; turns = omega arith; drawn = tt; owners = omega arith; calls = tt; count = omega arith; commands = tt; few = omega arith }
 runs_on None text (OnlineLine kind) a r = tt
 runs_on None text (PageLine p) a r = tt
+runs_on None text (FailLine call) a r = tt
 runs_on None text (TurnsLine turns) a r = tt
 runs_on None text (DrawLine draw) a r = tt
 runs_on None text (CallLine owner count page call) a r = tt
@@ -138,6 +125,19 @@ runs_on (Some s) text (PageLine p) a r =
       commands = r.commands;
       few = r.few;
     }
+runs_on (Some s) text (FailLine call) a r = record {
+  limits = r.limits;
+  start = r.start;
+  kinds = r.kinds;
+  named = r.named;
+  turns = r.turns;
+  drawn = r.drawn;
+  owners = r.owners;
+  calls = r.calls;
+  count = r.count;
+  commands = r.commands;
+  few = r.few;
+}
 runs_on (Some s) text (TurnsLine turns) a r =
     record {
       limits = r.limits;
@@ -194,7 +194,7 @@ runs_on (Some s) text (CommandLine command) a r =
       owners = r.owners;
       calls = r.calls;
       count = r.count;
-      commands = each_push IsHostCommand s.host command r.commands (record { bytes = a.reads.spelled.fits; built = is_built text command a.reads });
+      commands = each_push HasBytes s.host command r.commands a.reads.spelled.fits;
       few = omega (arith, length_push s.host command, a.count);
     }
 

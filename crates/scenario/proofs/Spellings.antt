@@ -13,7 +13,7 @@ use Rattle.evac_model.specs.declared.scenario.Actor.{Actor}
 use Rattle.evac_model.specs.declared.host.HostCommand.{HostCommand}
 use Rattle.evac_model.specs.declared.host.HostCommand.TheVariants.{Request, Config}
 use Rattle.evac_model.specs.Spelling.{kind_word, online_word, call_words, actor_word, turn_word, count_words, command_words, spaced}
-use Rattle.evac_model.specs.ScenarioLines.{Line, NamedTurn, MachineLine, OnlineLine, PageLine, TurnsLine, DrawLine, CallLine, CommandLine, words_of, IsNumber, HasNumbers, HasActorNumber, HasTurnNumbers, HasBytes, Fits, Spells, words}
+use Rattle.evac_model.specs.ScenarioLines.{Line, NamedTurn, MachineLine, OnlineLine, PageLine, FailLine, TurnsLine, DrawLine, CallLine, CommandLine, words_of, IsNumber, HasNumbers, HasActorNumber, HasTurnNumbers, HasBytes, Fits, Spells, words}
 use Rattle.scenario.proofs.HexWords.{hex_has_no_space}
 use Rattle.scenario.proofs.Marks.{HasNo, has_no, joined, number_has_no, space_no_digit, actor_has_no_space}
 
@@ -74,6 +74,7 @@ words-words_of : (line : Line) → Fits line → words (spaced (words_of line)) 
 words-words_of (MachineLine s) h = words-spaced (codes "machine") (map decimal (s.cells ∷ s.block ∷ s.boot ∷ s.managed ∷ s.plugged ∷ s.pages ∷ [])) (no_space (codes "machine") refl) (decimals_have_none (s.cells ∷ s.block ∷ s.boot ∷ s.managed ∷ s.plugged ∷ s.pages ∷ []) h)
 words-words_of (OnlineLine kind) h = words-spaced (codes "online") (online_word kind ∷ []) (no_space (codes "online") refl) (online_has_none kind, tt)
 words-words_of (PageLine p) h = words-spaced (codes "page") (decimal p.page.0 ∷ kind_word p.kind ∷ decimal p.frame.0 ∷ []) (no_space (codes "page") refl) (decimal_has_none p.page.0 h.0, (kind_has_none p.kind, (decimal_has_none p.frame.0 h.1, tt)))
+words-words_of (FailLine call) h = words-spaced (codes "fail") (decimal call ∷ []) (no_space (codes "fail") refl) (decimal_has_none call h, tt)
 words-words_of (TurnsLine turns) h = words-spaced (codes "turns") (map (λ t. turn_word t.actor t.count) turns) (no_space (codes "turns") refl) (turns_have_none turns h.1)
 words-words_of (DrawLine d) h = words-spaced (codes "draw") (decimal d.number ∷ decimal d.count ∷ []) (no_space (codes "draw") refl) (decimal_has_none d.number h.0, (decimal_has_none d.count h.1, tt))
 words-words_of (CallLine owner count page call) h = words-spaced (decimal owner) (count_words count ++ call_words page call) (decimal_has_none owner h.0) (counted_has_none count (call_words page call) h.1 (call_has_none page call h.2 h.3))

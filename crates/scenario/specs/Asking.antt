@@ -1,13 +1,10 @@
 -- What the words of a line ask for.
-use Rattle.std.specs.Prelude.{ℕ, Bool, false, ◌||◌, ◌&&◌, ◌==◌, List, [], ◌∷◌, length, codes, Option, None, Some, if◌then◌else◌, is_some}
+use Rattle.std.specs.Prelude.{ℕ, ◌||◌, ◌==◌, List, [], ◌∷◌, length, codes, if◌then◌else◌, is_some}
 use Rattle.std.specs.Str.{bytes_eq}
-use Rattle.evac_model.specs.DeviceAnswer.{request_in}
-use Rattle.evac_model.specs.HostCommands.{unplugs}
-use Rattle.evac_model.specs.ScenarioLines.{line_names, later_lines, call_names, command_names, later_commands}
+use Rattle.evac_model.specs.ScenarioLines.{line_names, call_names, command_names, later_commands}
 use Rattle.scenario.specs.declared.ask.Ask.{Ask}
 use Rattle.scenario.specs.declared.ask.Ask.TheVariants.{Unknown, Later, Read}
 use Rattle.scenario.specs.Numbers.{number_of}
-use Rattle.scenario.specs.Reading.{hex_bytes}
 use Rattle.scenario.specs.Words.{is_one_of}
 
 -- by a call's word
@@ -25,21 +22,7 @@ ask_of_owner [] = Read
 ask_of_owner ([] ∷ rest) = Read
 ask_of_owner ((b ∷ bs) ∷ rest) = if b == 120 then ask_behind_count rest else ask_of_call (b ∷ bs)
 
--- whether bytes are there, and are those of a request that unplugs blocks
-abbrev pub are_unplugging : Option (List ℕ) → Bool
-are_unplugging None = false
-are_unplugging (Some bytes) = unplugs (request_in bytes)
-
--- whether a word writes such bytes
-abbrev pub unplugs_by : List ℕ → Bool
-unplugs_by word = are_unplugging (hex_bytes word)
-
--- behind the word of a request
-abbrev pub ask_of_request : List (List ℕ) → Ask
-ask_of_request [] = Read
-ask_of_request (word ∷ rest) = if length rest == 0 && unplugs_by word then Later else Read
-
--- by the word of another command
+-- by a command's word
 abbrev pub ask_of_command : List ℕ → Ask
 ask_of_command word =
     if is_one_of later_commands word then Later
@@ -49,7 +32,7 @@ ask_of_command word =
 -- behind the word of the host
 abbrev pub ask_of_host : List (List ℕ) → Ask
 ask_of_host [] = Read
-ask_of_host (word ∷ rest) = if bytes_eq word (codes "request") then ask_of_request rest else ask_of_command word
+ask_of_host (word ∷ rest) = ask_of_command word
 
 -- by all the words; the laws in proofs/Askings.antt tie it to the grammar
 abbrev pub ask_of_words : List (List ℕ) → Ask
@@ -57,6 +40,5 @@ ask_of_words [] = Read
 ask_of_words (word ∷ rest) =
     if is_some (number_of word) then ask_of_owner rest
     else if bytes_eq word (codes "host") then ask_of_host rest
-    else if is_one_of later_lines word then Later
     else if length word == 0 || is_one_of line_names word then Read
     else Unknown

@@ -10,7 +10,7 @@ use Rattle.scenario.specs.Tables.{HasJust}
 
 -- the scenario so far
 abbrev pub scenario_of : Inside → Scenario
-scenario_of a = record { geometry = a.geometry; online = a.online; start = a.start.items; named = a.named.items; drawn = a.drawn; owners = scripts a.owners; host = a.host.items }
+scenario_of a = record { geometry = a.geometry; online = a.online; start = a.start.items; fails = a.fails.items; named = a.named.items; drawn = a.drawn; owners = scripts a.owners; host = a.host.items }
 
 -- the tables have the pages and the frames that were named, and the turns and the calls are counted
 pub record IsSound (a : Inside) : Type 0 where

@@ -48,6 +48,9 @@ online_line_in kind = grammar.OnlineLine kind
 abbrev pub page_line_in : PageLine → grammar.Line
 page_line_in l = grammar.PageLine (page_in l)
 
+abbrev pub fail_line_in : (call : ℕ) → grammar.Line
+fail_line_in call = grammar.FailLine call
+
 abbrev pub draw_in : DrawLine → Drawn
 draw_in l = record { number = l.number; count = l.count }
 
@@ -84,6 +87,7 @@ abbrev pub line_in : Line → grammar.Line
 line_in (kept.Machine l) = machine_in l
 line_in (kept.Online kind) = online_line_in kind
 line_in (kept.Page l) = page_line_in l
+line_in (kept.Fail call) = fail_line_in call
 line_in (kept.Turns l) = turns_in l
 line_in (kept.Draw l) = draw_line_in l
 line_in (kept.Call l) = call_in l
@@ -152,6 +156,11 @@ page_of words = do
   kind ← kind_at page.1
   frame ← number_at kind.1
   ended (record { page = record { 0 = page.0 }; kind = kind.0; frame = record { 0 = frame.0 } }) frame.1
+
+unfoldable pub fail_of : List (List ℕ) → Option ℕ
+fail_of words = do
+  call ← number_at words
+  ended call.0 call.1
 
 unfoldable pub draw_of : List (List ℕ) → Option Drawn
 draw_of words = do
@@ -295,6 +304,7 @@ plain_line_of word rest =
     if bytes_eq word (codes "machine") then (machine_of rest >>= λ sizes. Some (grammar.MachineLine sizes))
     else if bytes_eq word (codes "online") then (online_kind_of rest >>= λ kind. Some (grammar.OnlineLine kind))
     else if bytes_eq word (codes "page") then (page_of rest >>= λ page. Some (grammar.PageLine page))
+    else if bytes_eq word (codes "fail") then (fail_of rest >>= λ call. Some (grammar.FailLine call))
     else if bytes_eq word (codes "draw") then (draw_of rest >>= λ draw. Some (grammar.DrawLine draw))
     else if bytes_eq word (codes "host") then (command_of rest >>= λ command. Some (grammar.CommandLine command))
     else (number_of word >>= λ owner. call_line_of owner rest)

@@ -1,14 +1,12 @@
 //! What a line asks for, by its first words.
 
 ghost use Rattle.std.specs.Prelude.{◌≡◌};
-ghost use Rattle.evac_model.specs.ScenarioLines.{words, line_names, later_lines, call_names, command_names, later_commands};
+ghost use Rattle.evac_model.specs.ScenarioLines.{words, line_names, call_names, command_names, later_commands};
 ghost use Rattle.scenario.specs.Words.{words_left, is_one_of};
-ghost use Rattle.scenario.specs.Asking.{ask_of_words, ask_of_owner, ask_behind_count, ask_of_call, ask_of_host, ask_of_request, ask_of_command, unplugs_by};
+ghost use Rattle.scenario.specs.Asking.{ask_of_words, ask_of_owner, ask_behind_count, ask_of_call, ask_of_host, ask_of_command};
 
-use crate::command_line::hex_bytes;
 use crate::number::number;
-use crate::words::{is_ended, split_word};
-use mem_codec::{Request, read_request};
+use crate::words::split_word;
 
 /// Whether this program reads lines of this kind.
 #[derive(Clone, Copy, Debug, PartialEq, Eq)]
@@ -31,12 +29,6 @@ fn is_line_name(word: &[u8]) -> bool
         || word == b"turns".as_slice()
         || word == b"draw".as_slice()
         || word == b"host".as_slice()
-}
-
-fn is_later_line(word: &[u8]) -> bool
-    ensures { result ≡ is_one_of later_lines word.now }
-{
-    word == b"fail".as_slice()
 }
 
 fn is_call_name(word: &[u8]) -> bool
@@ -86,9 +78,6 @@ pub fn ask_of_line(text: &[u8]) -> Ask
     if word == b"host".as_slice() {
         return ask_of_host(rest);
     }
-    if is_later_line(word) {
-        return Ask::Later;
-    }
     if word.is_empty() || is_line_name(word) {
         return Ask::Read;
     }
@@ -136,14 +125,11 @@ fn ask_of_host(rest: Option<&[u8]>) -> Ask
     let Some(text) = rest else {
         return Ask::Read;
     };
-    let (word, rest) = split_word(text);
-    if word == b"request".as_slice() {
-        return ask_of_request(rest);
-    }
+    let (word, _) = split_word(text);
     ask_of_command(word)
 }
 
-/// What is asked by the word of a command, if it isn't a request's.
+/// What is asked by a command's word.
 fn ask_of_command(word: &[u8]) -> Ask
     ensures { result ≡ ask_of_command word.now }
 {
@@ -154,31 +140,4 @@ fn ask_of_command(word: &[u8]) -> Ask
         return Ask::Read;
     }
     Ask::Unknown
-}
-
-/// What is asked by a request, with what is behind its name.
-fn ask_of_request(rest: Option<&[u8]>) -> Ask
-    ensures { result ≡ ask_of_request (words_left rest.entry) }
-{
-    let Some(text) = rest else {
-        return Ask::Read;
-    };
-    let (word, rest) = split_word(text);
-    if is_ended(rest) && unplugs_by(word) {
-        return Ask::Later;
-    }
-    Ask::Read
-}
-
-/// Whether a word writes the bytes of a request that unplugs blocks.
-fn unplugs_by(word: &[u8]) -> bool
-    ensures { result ≡ unplugs_by word.now }
-{
-    let Some(bytes) = hex_bytes(word) else {
-        return false;
-    };
-    match read_request(bytes.as_slice()) {
-        Ok(Request::Unplug { .. }) | Ok(Request::UnplugAll) => true,
-        Ok(Request::Plug { .. }) | Ok(Request::State { .. }) | Err(_) => false,
-    }
 }

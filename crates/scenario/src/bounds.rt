@@ -1,10 +1,13 @@
-//! How many of a thing a scenario may have.
+//! How many of a thing a scenario may have, and the highest numbers.
 
 /// The most owners.
 pub const MOST_OWNERS: u64 = 16;
 
 /// The most calls of all owners.
 pub const MOST_CALLS: u64 = 1 << 20;
+
+/// The highest number of a call of the backing that a line may let fail.
+pub const HIGHEST_FAIL: u64 = 65_536;
 
 /// The most named turns, and the most drawn ones.
 pub const MOST_TURNS: u64 = 1 << 24;

@@ -30,7 +30,7 @@ fn decoded(word: &[u8], room: &mut [u8]) -> Option<RequestBytes>
 }
 
 /// The bytes that a word writes in lower-case hexadecimal, at most 64.
-pub fn hex_bytes(word: &[u8]) -> Option<RequestBytes>
+fn hex_bytes(word: &[u8]) -> Option<RequestBytes>
     ensures { result ≡ hex_bytes word.now }
 {
     if word.len() > 2 * MOST_REQUEST_BYTES || has_capital(word) {

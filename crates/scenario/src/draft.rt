@@ -7,7 +7,7 @@ ghost use Rattle.evac_model.specs.ScenarioGrammar.{with_calls, call_count};
 ghost use Rattle.scenario.specs.Reading.{sizes_in};
 ghost use Rattle.scenario.specs.Judging.{scripts};
 
-use crate::bounds::{MOST_CALLS, MOST_COMMANDS, MOST_OWNERS, MOST_TURNS};
+use crate::bounds::{HIGHEST_FAIL, MOST_CALLS, MOST_COMMANDS, MOST_OWNERS, MOST_TURNS};
 use crate::call_line::CallLine;
 use crate::error::Refusal;
 use crate::line::{DrawLine, MachineLine, PageLine};
@@ -28,6 +28,7 @@ pub struct Draft {
     geometry: Geometry,
     online: Option<Kind>,
     start: Vec<StartPage>,
+    fails: Vec<u64>,
     named_pages: NumberTable,
     named_frames: NumberTable,
     named: Vec<Turn>,
@@ -103,7 +104,7 @@ impl Model for Draft {
 impl Draft {
     ghost use Rattle.std.specs.Prelude.{◌≡◌, ◌↔◌, IsTrue, IfOk, MatchResult, None, Some};
     ghost use Rattle.evac_model.specs.ScenarioGrammar.{IsFreeFor};
-    ghost use Rattle.scenario.specs.Reading.{page_in, machine_in, online_line_in, page_line_in, turns_in, draw_line_in, call_in, command_line_in};
+    ghost use Rattle.scenario.specs.Reading.{page_in, machine_in, online_line_in, page_line_in, fail_line_in, turns_in, draw_line_in, call_in, command_line_in};
     ghost use Rattle.scenario.specs.Judging.{Adds, RefusesReadLine};
 
     /// The scenario of a machine line alone.
@@ -117,6 +118,7 @@ impl Draft {
             geometry,
             online: None,
             start: Vec::new(alloc),
+            fails: Vec::new(alloc),
             named_pages: NumberTable::new(alloc, geometry.pages() as usize)?,
             named_frames: NumberTable::new(alloc, geometry.frames() as usize)?,
             named: Vec::new(alloc),
@@ -173,6 +175,17 @@ impl Draft {
         }
         let online = self.online.unwrap_or(Kind::Movable);
         is_there(&self.geometry, line.frame) && takes(&self.geometry, online, line.kind, line.frame)
+    }
+
+    /// Adds a call of the backing that fails.
+    pub fn add_fail(&mut self, call: u64) -> Result<(), Refusal>
+        ensures { MatchResult result (λ _. Adds (Some self.old) (fail_line_in call) self.new) (RefusesReadLine (Some self.old) (fail_line_in call)) }
+    {
+        if call < 1 || call > HIGHEST_FAIL {
+            return Err(Refusal::Cause(LineCause::Range));
+        }
+        self.fails.push(call)?;
+        Ok(())
     }
 
     /// Adds named turns.
@@ -253,6 +266,7 @@ impl Draft {
             geometry,
             online,
             start,
+            fails,
             named_pages: _,
             named_frames: _,
             named,
@@ -270,6 +284,7 @@ impl Draft {
             geometry,
             online,
             start: Listed::from_vec(start),
+            fails: Listed::from_vec(fails),
             named: Listed::from_vec(named),
             drawn,
             owners: Listed::from_vec(owners),

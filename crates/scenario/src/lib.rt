@@ -1,5 +1,6 @@
 //! Reads scenarios: the machine, what its managed blocks are online for, the pages of its start, the
-//! turns that are named or drawn, a script for each owner, and the host's commands.
+//! calls of the backing that fail, the turns that are named or drawn, a script for each owner, and the
+//! host's commands.
 #![tactic(auto)]
 
 mod ask;
@@ -24,8 +25,8 @@ mod words;
 pub use error::ScenarioError;
 pub use evac_model::{
     Actor, Call, CallList, Cells, CommandList, Drawn, FrameNo, Geometry, HostCommand, Kind,
-    LineCause, Listed, PageNo, RequestBytes, Scenario, ScenarioFault, ScriptList, StartPage,
-    StartPageList, Turn, TurnList,
+    LineCause, Listed, NumberList, PageNo, RequestBytes, Scenario, ScenarioFault, ScriptList,
+    StartPage, StartPageList, Turn, TurnList,
 };
 pub use laws::texts_are_judged_once;
 pub use reader::read_scenario;

@@ -3,7 +3,7 @@
 ghost use Rattle.std.specs.Prelude.{◌≡◌, IfOk};
 ghost use Rattle.evac_model.specs.ScenarioLines.{words};
 ghost use Rattle.scenario.specs.Words.{words_left};
-ghost use Rattle.scenario.specs.Reading.{Gives, sizes_in, page_in, draw_in, line_in, machine_of, online_kind_of, page_of, draw_of, plain_line_of, line_of};
+ghost use Rattle.scenario.specs.Reading.{Gives, sizes_in, page_in, draw_in, line_in, machine_of, online_kind_of, page_of, fail_of, draw_of, plain_line_of, line_of};
 
 use crate::call_line::{CallLine, call_line_of};
 use crate::command_line::command_of;
@@ -47,6 +47,8 @@ pub enum Line {
     /// What managed blocks are online for.
     Online(Kind),
     Page(PageLine),
+    /// A call of the backing that fails.
+    Fail(u64),
     Turns(TurnsLine),
     Draw(DrawLine),
     Call(CallLine),
@@ -82,6 +84,9 @@ fn plain_line_of(word: &[u8], rest: Option<&[u8]>) -> Option<Line>
     }
     if word == b"page".as_slice() {
         return Some(Line::Page(page_of(rest)?));
+    }
+    if word == b"fail".as_slice() {
+        return Some(Line::Fail(fail_of(rest)?));
     }
     if word == b"draw".as_slice() {
         return Some(Line::Draw(draw_of(rest)?));
@@ -138,6 +143,17 @@ fn page_of(rest: Option<&[u8]>) -> Option<PageLine>
         return None;
     }
     Some(PageLine { page, kind, frame })
+}
+
+#[tactic(auto, unfolding(crate::specs::Reading::fail_of))]
+fn fail_of(rest: Option<&[u8]>) -> Option<u64>
+    ensures { Gives (λ call. call) result (fail_of (words_left rest.entry)) }
+{
+    let (call, rest) = number_at(rest)?;
+    if !is_ended(rest) {
+        return None;
+    }
+    Some(call)
 }
 
 #[tactic(auto, unfolding(crate::specs::Reading::draw_of))]

@@ -43,6 +43,7 @@ fn add_line(alloc: Global, draft: &mut Draft, line: Line) -> Result<(), Refusal>
         Line::Machine(_) => Err(Refusal::Cause(LineCause::Order)),
         Line::Online(online) => draft.add_online(online),
         Line::Page(page) => draft.add_page(page),
+        Line::Fail(call) => draft.add_fail(call),
         Line::Turns(turns) => draft.add_turns(alloc, turns),
         Line::Draw(draw) => draft.add_draw(draw),
         Line::Call(call) => draft.add_call(alloc, call),
@@ -59,6 +60,7 @@ fn with_line(alloc: Global, draft: Option<Draft>, line: Line) -> Result<Draft, R
             Line::Machine(sizes) => Draft::new(alloc, sizes),
             Line::Online(_)
             | Line::Page(_)
+            | Line::Fail(_)
             | Line::Turns(_)
             | Line::Draw(_)
             | Line::Call(_)

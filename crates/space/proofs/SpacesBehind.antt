@@ -254,7 +254,7 @@ still_not_out out frame f h = elim (cases_eq f frame) [
 ]
 
 -- a frame that still is out was out for the same
-still_out : (out : List (Option Out)) (frame f : ℕ) (x : Out) → get_or (set out frame None) f None ≡ Some x → get_or out f None ≡ Some x
+pub still_out : (out : List (Option Out)) (frame f : ℕ) (x : Out) → get_or (set out frame None) f None ≡ Some x → get_or out f None ≡ Some x
 still_out out frame f x e = elim (cases_eq f frame) [
   | inl same ↦
       let none : None ≡ Some x = sym (ap (λ (i : ℕ). get_or (set out frame None) i None) same ∙ cleared_here out frame) ∙ e in

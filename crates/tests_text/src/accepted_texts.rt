@@ -13,7 +13,7 @@ use std::test::Fail;
 const MACHINE: &str = "machine 2 4 2 4 4 8\n";
 
 /// Digits of requests that are read, and how many bytes they write.
-const REQUESTS: [(&str, usize); 12] = [
+const REQUESTS: [(&str, usize); 15] = [
     ("00", 1),
     ("9f", 1),
     (
@@ -24,6 +24,9 @@ const REQUESTS: [(&str, usize); 12] = [
     ("0200000000000000000000000000000000000000000000", 23),
     ("01000000000000000000000000000000000000000000000000", 25),
     ("02000000000000000000000000000000000000000000000000", 25),
+    ("010000000000000000000000000000000000000000000000", 24),
+    ("020000000000000000000000000000000000000000000000", 24),
+    ("0100ffffffffffffffffffffffffffffffffffffffffffff", 24),
     ("010100000000000000000000000000000000000000000000", 24),
     ("020100000000000000000000000000000000000000000000", 24),
     ("000000000000000000000000000000000000000000000000", 24),
@@ -50,6 +53,7 @@ fn accepted(rt: HostRuntime) -> Result<(), Fail> {
         start_page(0, Kind::Unmovable, 7),
     ];
     assert_eq!(rt; scenario.start.as_slice(), start.as_slice());
+    assert!(rt; scenario.fails.is_empty());
     let mut values = Cells::new();
     values.push(u64::MAX);
     values.push(0);
@@ -107,6 +111,16 @@ fn online_counts_for_the_pages_behind_it(rt: HostRuntime) -> Result<(), Fail> {
         start_page(3, Kind::Movable, 0),
     ];
     assert_eq!(rt; scenario.start.as_slice(), start.as_slice());
+    Ok(())
+}
+
+#[test]
+fn fails_are_kept_in_order(rt: HostRuntime) -> Result<(), Fail> {
+    let text = "machine 2 4 2 4 4 8\nfail 1\nfail 1\n1 pin 0\nfail 65536\nhost config\nfail 7";
+    let scenario = read_scenario(rt.alloc(), text.as_bytes())?;
+    assert_eq!(rt; scenario.fails.as_slice(), [1, 1, 65_536, 7].as_slice());
+    assert_eq!(rt; scenario.owners.len(), 1);
+    assert_eq!(rt; scenario.host.len(), 1);
     Ok(())
 }
 

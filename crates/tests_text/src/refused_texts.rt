@@ -9,7 +9,7 @@ use std::test::Fail;
 const MACHINE: &str = "machine 2 4 2 4 4 8\n";
 
 /// Texts behind the machine line, and the cause by which their first line is refused.
-const SECOND_LINES: [(&str, LineCause); 33] = [
+const SECOND_LINES: [(&str, LineCause); 43] = [
     ("1 read 0 1 2", LineCause::Range),
     ("05 read 0 0 1", LineCause::Word),
     ("18446744073709551616 read 0 0 1", LineCause::Word),
@@ -28,7 +28,17 @@ const SECOND_LINES: [(&str, LineCause); 33] = [
     ("online kernel x", LineCause::Form),
     ("online kernel movable", LineCause::Form),
     ("onlinekernel", LineCause::Word),
-    ("fail 1", LineCause::Later),
+    ("fail", LineCause::Form),
+    ("fail ", LineCause::Form),
+    ("fail 01", LineCause::Form),
+    ("fail  1", LineCause::Form),
+    ("fail 1 2", LineCause::Form),
+    ("fail one", LineCause::Form),
+    ("fail 18446744073709551616", LineCause::Form),
+    ("fails 1", LineCause::Word),
+    ("fail 0", LineCause::Range),
+    ("fail 65537", LineCause::Range),
+    ("fail 4294967297", LineCause::Range),
     ("page 0 movable", LineCause::Form),
     ("page 0 movable 0 ", LineCause::Form),
     ("page  0 movable 0", LineCause::Form),
@@ -126,7 +136,7 @@ const TURN_LINES: [(&str, LineCause); 29] = [
 ];
 
 /// The same of the host's commands.
-const COMMAND_LINES: [(&str, LineCause); 36] = [
+const COMMAND_LINES: [(&str, LineCause); 33] = [
     ("host", LineCause::Form),
     ("host ", LineCause::Form),
     ("host  config", LineCause::Form),
@@ -163,18 +173,6 @@ const COMMAND_LINES: [(&str, LineCause); 36] = [
         LineCause::Form,
     ),
     (
-        "host request 010000000000000000000000000000000000000000000000",
-        LineCause::Later,
-    ),
-    (
-        "host request 020000000000000000000000000000000000000000000000",
-        LineCause::Later,
-    ),
-    (
-        "host request 0100ffffffffffffffffffffffffffffffffffffffffffff",
-        LineCause::Later,
-    ),
-    (
         "host request 010000000000000000000000000000000000000000000000 ",
         LineCause::Form,
     ),
@@ -193,7 +191,7 @@ const COMMAND_LINES: [(&str, LineCause); 36] = [
 ];
 
 /// Whole texts, the line that is refused, and its cause.
-const TEXTS: [(&str, u64, LineCause); 39] = [
+const TEXTS: [(&str, u64, LineCause); 43] = [
     ("", 0, LineCause::Empty),
     ("# nothing\n\n#\r\n", 0, LineCause::Empty),
     ("machine 3 4 2 4 4 8\n", 1, LineCause::Range),
@@ -313,7 +311,15 @@ const TEXTS: [(&str, u64, LineCause); 39] = [
     (
         "host request 010000000000000000000000000000000000000000000000\n",
         1,
-        LineCause::Later,
+        LineCause::Order,
+    ),
+    ("fail 1\nmachine 2 4 2 4 4 8\n", 1, LineCause::Order),
+    ("fail 0\n", 1, LineCause::Order),
+    ("fail 01\n", 1, LineCause::Form),
+    (
+        "machine 2 4 2 4 4 8\nfail 1\nfail 65536\nfail 65537\n",
+        4,
+        LineCause::Range,
     ),
 ];
 
