@@ -1,6 +1,6 @@
 -- Commands that unplug nothing did what the functions of the commands alone say, where each response is the device's answer by the
 -- actions before it, and no listener was told of any.
-use Rattle.std.proofs.Common.{◌≡◌, ℕ, suc, ◌+◌, List, [], ◌∷◌, ◌++◌, map, length, drop, get_or, refl, sym, ap, ◌∙◌, subst, arith}
+use Rattle.std.proofs.Common.{◌≡◌, ℕ, suc, ◌+◌, Bool, false, ◌&&◌, List, [], ◌∷◌, ◌++◌, map, length, drop, get_or, refl, sym, ap, ◌∙◌, subst, arith}
 use Rattle.std.specs.List.{range_with_len, AllByRecursion}
 use Rattle.evac_model.specs.declared.device.Response.{Response}
 use Rattle.evac_model.specs.declared.device_journal.DeviceAct.TheVariants as acts
@@ -12,20 +12,26 @@ use Rattle.evac_model.specs.declared.host.HostResult.TheVariants as results
 use Rattle.evac_model.specs.declared.host.HostRun.{HostRun}
 use Rattle.evac_model.specs.declared.space.SpaceAction.{SpaceAction}
 use Rattle.evac_model.specs.declared.tried.Tried.{Tried}
-use Rattle.evac_model.specs.Counts.{Calls}
-use Rattle.evac_model.specs.DeviceAnswer.{DeviceState, request_in, after_act, device_after}
-use Rattle.evac_model.specs.DeviceJournal.{calls_after_act, calls_after, AreAnswered}
+use Rattle.evac_model.specs.Counts.{Calls, is_listed}
+use Rattle.evac_model.specs.DeviceAnswer.{DeviceState, request_in, device_answer, after_act, device_after}
+use Rattle.evac_model.specs.DeviceJournal.{calls_after_act, calls_after, answer_to, AreAnswered}
 use Rattle.evac_model.specs.Geometry.{Sizes}
-use Rattle.evac_model.specs.HostCommands.{sure_answer, request_action, plugged_by, onlines_of, command_result, command_actions, command_range, after_command, host_actions, host_lines, host_onlines, host_runs}
-use Rattle.evac_model.specs.Scenarios.{IsHostCommand}
-use Rattle.evac_model.proofs.DeviceJournal.{sure_where_none_asked}
+use Rattle.evac_model.specs.HostCommands.{unplugs, request_action, plugged_by, host_runs}
+use Rattle.evac_model.proofs.DeviceJournal.{asks_none}
 use Rattle.host_work.specs.Commands.{IsDoneBy, AreDoneBy}
+use Rattle.host_work.specs.PlainCommands.{IsPlain, sure_answer, onlines_of, command_result, command_actions, command_range, after_command, host_actions, host_lines, host_onlines}
 use Rattle.host_work.specs.Requests.{Evacuates, WasSent}
 use Rattle.host_work.proofs.Parts.{all_parts}
 use Rattle.host_work.proofs.Sent.{some_inside, nothing_to_empty, nothing_taken_away, nothing_tried, back_plugged}
 
 abbrev pub TellNobody : List DeviceAction → Type 0
 TellNobody device = AllByRecursion (λ a. a.notices ≡ []) device
+
+-- ---- answers where the backing isn't asked
+
+sure_where_none_asked : (s : Sizes) (d : DeviceState) (calls : Calls) (bytes : List ℕ) → unplugs (request_in bytes) ≡ false → answer_to s d calls bytes ≡ sure_answer s d bytes
+sure_where_none_asked s d calls bytes none =
+    ap (λ (asks : Bool). device_answer s d (asks && is_listed calls) (request_in bytes)) (asks_none s d (request_in bytes) none)
 
 -- ---- parts of the device's journal
 
@@ -55,15 +61,15 @@ record IsOneAsTold (s : Sizes) (d : DeviceState) (number : ℕ) (c : HostCommand
   pub sent : device ≡ command_actions s d c
 
 module _ (E : Evacuates) (before : List SpaceAction) (s : Sizes) (d : DeviceState) (calls : Calls) (number : ℕ) where
-  request_as_told : (bytes : List ℕ) (response : Response) (tried : List Tried) (actions : List SpaceAction) (device : List DeviceAction) → IsHostCommand (Request bytes) → WasSent E before s d bytes response tried actions device
+  request_as_told : (bytes : List ℕ) (response : Response) (tried : List Tried) (actions : List SpaceAction) (device : List DeviceAction) → IsPlain (Request bytes) → WasSent E before s d bytes response tried actions device
       → AreAnswered s d calls device → TellNobody device → IsOneAsTold s d number (Request bytes) (run_of number (Request bytes) (results.Answered response) tried) actions device
   request_as_told bytes response tried actions device is was answered quiet =
       let alone = request_alone device bytes response was.sent quiet in
       let all : AreAnswered s d calls (request_action bytes response ∷ []) = subst (λ (l : List DeviceAction). AreAnswered s d calls l) alone answered in
-      let sure : response ≡ sure_answer s d bytes = all.0 ∙ sure_where_none_asked s d calls bytes is.built in
-      let none : tried ≡ [] = was.tried ∙ sym (nothing_tried s d (request_in bytes) is.built) in
-      let emptied : was.emptying ≡ [] = nothing_taken_away s d (request_in bytes) is.built E before was.emptying was.taken_away in
-      let back = back_plugged s d (request_in bytes) response is.built in
+      let sure : response ≡ sure_answer s d bytes = all.0 ∙ sure_where_none_asked s d calls bytes is in
+      let none : tried ≡ [] = was.tried ∙ sym (nothing_tried s d (request_in bytes) is) in
+      let emptied : was.emptying ≡ [] = nothing_taken_away s d (request_in bytes) is E before was.emptying was.taken_away in
+      let back = back_plugged s d (request_in bytes) response is in
       record {
         told =
             ap (λ (l : List Tried). run_of number (Request bytes) (results.Answered response) l) none
@@ -75,11 +81,11 @@ module _ (E : Evacuates) (before : List SpaceAction) (s : Sizes) (d : DeviceStat
         sent = alone ∙ ap (λ (x : Response). request_action bytes x ∷ []) sure;
       }
 
-  one_as_told : (c : HostCommand) (result : HostResult) (tried : List Tried) (actions : List SpaceAction) (device : List DeviceAction) → IsHostCommand c → IsDoneBy E before s d c result tried actions device → AreAnswered s d calls device → TellNobody device
+  one_as_told : (c : HostCommand) (result : HostResult) (tried : List Tried) (actions : List SpaceAction) (device : List DeviceAction) → IsPlain c → IsDoneBy E before s d c result tried actions device → AreAnswered s d calls device → TellNobody device
       → IsOneAsTold s d number c (run_of number c result tried) actions device
   one_as_told (Request bytes) (results.Answered response) tried actions device is was answered quiet = request_as_told bytes response tried actions device is was answered quiet
   one_as_told (Request bytes) results.Unsent tried actions device is was answered quiet =
-      absurd (some_inside was.before was.block was.behind (sym (nothing_to_empty s d (request_in bytes) is.built) ∙ was.blocks))
+      absurd (some_inside was.before was.block was.behind (sym (nothing_to_empty s d (request_in bytes) is) ∙ was.blocks))
   one_as_told (Request bytes) (results.Config config) tried actions device is was answered quiet = absurd was
   one_as_told Config result tried actions device is was answered quiet = record {
     told = λ i. run_of number Config (was.told i) (was.tried i);
@@ -100,7 +106,7 @@ commands_in runs = map (λ x. x.command) runs
 abbrev AreNumberedFrom : (number : ℕ) → List HostRun → Type 0
 AreNumberedFrom number runs = map (λ x. x.line.no) runs ≡ range_with_len number (length (commands_in runs))
 
-all_as_told : (E : Evacuates) (before : List SpaceAction) (s : Sizes) (d : DeviceState) (calls : Calls) (number : ℕ) (runs : List HostRun) (actions : List SpaceAction) (device : List DeviceAction) → AllByRecursion IsHostCommand (commands_in runs)
+all_as_told : (E : Evacuates) (before : List SpaceAction) (s : Sizes) (d : DeviceState) (calls : Calls) (number : ℕ) (runs : List HostRun) (actions : List SpaceAction) (device : List DeviceAction) → AllByRecursion IsPlain (commands_in runs)
     → AreDoneBy E before s d runs actions device → AreAnswered s d calls device → TellNobody device → AreNumberedFrom number runs → AreAsTold s d number (commands_in runs) runs actions device
 all_as_told E before s d calls number [] actions device all done answered quiet numbers = record { told = refl; put = done.0; sent = done.1 }
 all_as_told E before s d calls number (x ∷ xs) actions device all done answered quiet numbers =
@@ -126,9 +132,9 @@ all_as_told E before s d calls number (x ∷ xs) actions device all done answere
     }
 
 pub did_as_told : (E : Evacuates) (before : List SpaceAction) (s : Sizes) (d : DeviceState) (calls : Calls) (number : ℕ) (commands : List HostCommand) (runs : List HostRun) (actions : List SpaceAction) (device : List DeviceAction)
-    → AllByRecursion IsHostCommand commands → AreDoneBy E before s d runs actions device → AreAnswered s d calls device → AllByRecursion (λ a. a.notices ≡ []) device
+    → AllByRecursion IsPlain commands → AreDoneBy E before s d runs actions device → AreAnswered s d calls device → AllByRecursion (λ a. a.notices ≡ []) device
     → map (λ x. x.command) runs ≡ commands → map (λ x. x.line.no) runs ≡ range_with_len number (length commands) → AreAsTold s d number commands runs actions device
 did_as_told E before s d calls number commands runs actions device all done answered quiet same numbers =
     subst (λ (cs : List HostCommand). AreAsTold s d number cs runs actions device) same
-    (all_as_told E before s d calls number runs actions device (subst (λ (cs : List HostCommand). AllByRecursion IsHostCommand cs) (sym same) all) done answered quiet
+    (all_as_told E before s d calls number runs actions device (subst (λ (cs : List HostCommand). AllByRecursion IsPlain cs) (sym same) all) done answered quiet
     (numbers ∙ ap (λ (cs : List HostCommand). range_with_len number (length cs)) (sym same)))

@@ -4,3 +4,5 @@ pub mod Parts
 pub mod AsTold
 pub mod Undone
 pub mod Small
+pub mod TruthGrows
+pub mod TruthSmall

@@ -9,8 +9,9 @@ use Rattle.evac_model.specs.declared.device_journal.DeviceAction.{DeviceAction}
 use Rattle.evac_model.specs.declared.space.SpaceAction.{SpaceAction}
 use Rattle.evac_model.specs.DeviceAnswer.{DeviceState, request_in}
 use Rattle.evac_model.specs.Geometry.{Sizes}
-use Rattle.evac_model.specs.HostCommands.{unplugs, plugged_by, put_online, onlines_of}
+use Rattle.evac_model.specs.HostCommands.{unplugs, plugged_by, put_online}
 use Rattle.evac_model.proofs.DeviceJournal.{named_none}
+use Rattle.host_work.specs.PlainCommands.{onlines_of}
 use Rattle.host_work.specs.Requests.{Evacuates, WasSent, blocks_to_empty, blocks_back, emptied_lines, AreTakenAway}
 
 -- a list with an element in it isn't empty

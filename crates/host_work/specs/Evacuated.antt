@@ -34,7 +34,7 @@ end_by None = Emptied
 end_by (Some cause) = Failed cause
 
 -- An evacuation of the block went by a tale of rounds and attempts to that end, and did this to the frame space. A cause was met
--- by what the evacuation was told: that this was true is not said here.
+-- by what the evacuation was told: that this was true is said by `Truth`.
 pub record WasEvacuated (s : Sizes) (b : BlockNo) (cause : Option EvacCause) (actions : List SpaceAction) : Type 0 where
   pub evacuation : Evacuating
   pub tale : Tale

@@ -5,6 +5,7 @@ ghost use Rattle.std.specs.List.{range_with_len, AllByRecursion};
 ghost use Rattle.evac_model.specs.declared.device.Response.{Response};
 ghost use Rattle.evac_model.specs.declared.device_journal.DeviceAct.{DeviceAct};
 ghost use Rattle.evac_model.specs.declared.device_journal.DeviceAction.{DeviceAction};
+ghost use Rattle.evac_model.specs.declared.entry.Entry.{Entry};
 ghost use Rattle.evac_model.specs.declared.evacuation.EvacCause.{EvacCause};
 ghost use Rattle.evac_model.specs.declared.host.HostCommand.{HostCommand};
 ghost use Rattle.evac_model.specs.declared.host.HostResult.{HostResult};
@@ -17,12 +18,16 @@ ghost use Rattle.evac_model.specs.Counts.{Calls};
 ghost use Rattle.evac_model.specs.DeviceAnswer.{DeviceState, request_in};
 ghost use Rattle.evac_model.specs.DeviceJournal.{AreAnswered};
 ghost use Rattle.evac_model.specs.Geometry.{Sizes};
-ghost use Rattle.evac_model.specs.HostCommands.{unplugs, plugged_by, onlines_of, host_actions, host_lines, host_runs, host_onlines};
-ghost use Rattle.evac_model.specs.Scenarios.{IsHostCommand};
+ghost use Rattle.evac_model.specs.HostCommands.{unplugs, plugged_by, host_runs};
+ghost use Rattle.evac_model.specs.State.{PlainState};
 ghost use Rattle.evac_model.specs.declared.tried.Tried.{Tried};
 ghost use Rattle.host_work.specs.Commands.{IsDoneBy, AreDoneBy};
 ghost use Rattle.host_work.specs.Evacuated.{WasEvacuated, by_tale};
 ghost use Rattle.host_work.specs.Examples.{CommandsOfSmall};
+ghost use Rattle.host_work.specs.FoundWords.{IsWordOf};
+ghost use Rattle.host_work.specs.PlainCommands.{IsPlain, onlines_of, host_actions, host_lines, host_onlines};
+ghost use Rattle.host_work.specs.Truth.{SpaceRun, IsCauseTrue, by_truth};
+ghost use Rattle.host_work.specs.TruthExamples.{CausesOfSmall};
 
 /// A request that unplugs nothing is one answer of the device, and then the blocks that it plugged are put online: no
 /// evacuation is made.
@@ -36,16 +41,16 @@ pub fn requests_that_unplug_nothing_are_one_answer()
 
 /// Commands that unplug nothing did, one after another, what the functions of the commands and the device alone say.
 pub fn commands_that_unplug_nothing_do_as_told()
-    ensures { (before : List SpaceAction) (s : Sizes) (d : DeviceState) (number : ℕ) (commands : List HostCommand) → AllByRecursion IsHostCommand commands → AreDoneBy (by_tale s) before s d (host_runs commands (host_lines s d number commands)) (host_onlines s d commands) (host_actions s d commands) }
+    ensures { (before : List SpaceAction) (s : Sizes) (d : DeviceState) (number : ℕ) (commands : List HostCommand) → AllByRecursion IsPlain commands → AreDoneBy (by_tale s) before s d (host_runs commands (host_lines s d number commands)) (host_onlines s d commands) (host_actions s d commands) }
 {}
 
 /// They did nothing else: where such commands, numbered from a number on, did this, each response is the device's answer by the
 /// actions before it, and no listener was told of any, then what is reported of them, what the driver did to the frame space and what
 /// the device did are what these functions say.
 pub fn plain_commands_did_as_told()
-    ensures runs { (before : List SpaceAction) (s : Sizes) (d : DeviceState) (calls : Calls) (number : ℕ) (commands : List HostCommand) (runs : List HostRun) (actions : List SpaceAction) (device : List DeviceAction) → AllByRecursion IsHostCommand commands → AreDoneBy (by_tale s) before s d runs actions device → AreAnswered s d calls device → AllByRecursion (λ a. a.notices ≡ []) device → map (λ x. x.command) runs ≡ commands → map (λ x. x.line.no) runs ≡ range_with_len number (length commands) → runs ≡ host_runs commands (host_lines s d number commands) }
-    ensures actions { (before : List SpaceAction) (s : Sizes) (d : DeviceState) (calls : Calls) (number : ℕ) (commands : List HostCommand) (runs : List HostRun) (actions : List SpaceAction) (device : List DeviceAction) → AllByRecursion IsHostCommand commands → AreDoneBy (by_tale s) before s d runs actions device → AreAnswered s d calls device → AllByRecursion (λ a. a.notices ≡ []) device → map (λ x. x.command) runs ≡ commands → map (λ x. x.line.no) runs ≡ range_with_len number (length commands) → actions ≡ host_onlines s d commands }
-    ensures device { (before : List SpaceAction) (s : Sizes) (d : DeviceState) (calls : Calls) (number : ℕ) (commands : List HostCommand) (runs : List HostRun) (actions : List SpaceAction) (device : List DeviceAction) → AllByRecursion IsHostCommand commands → AreDoneBy (by_tale s) before s d runs actions device → AreAnswered s d calls device → AllByRecursion (λ a. a.notices ≡ []) device → map (λ x. x.command) runs ≡ commands → map (λ x. x.line.no) runs ≡ range_with_len number (length commands) → device ≡ host_actions s d commands }
+    ensures runs { (before : List SpaceAction) (s : Sizes) (d : DeviceState) (calls : Calls) (number : ℕ) (commands : List HostCommand) (runs : List HostRun) (actions : List SpaceAction) (device : List DeviceAction) → AllByRecursion IsPlain commands → AreDoneBy (by_tale s) before s d runs actions device → AreAnswered s d calls device → AllByRecursion (λ a. a.notices ≡ []) device → map (λ x. x.command) runs ≡ commands → map (λ x. x.line.no) runs ≡ range_with_len number (length commands) → runs ≡ host_runs commands (host_lines s d number commands) }
+    ensures actions { (before : List SpaceAction) (s : Sizes) (d : DeviceState) (calls : Calls) (number : ℕ) (commands : List HostCommand) (runs : List HostRun) (actions : List SpaceAction) (device : List DeviceAction) → AllByRecursion IsPlain commands → AreDoneBy (by_tale s) before s d runs actions device → AreAnswered s d calls device → AllByRecursion (λ a. a.notices ≡ []) device → map (λ x. x.command) runs ≡ commands → map (λ x. x.line.no) runs ≡ range_with_len number (length commands) → actions ≡ host_onlines s d commands }
+    ensures device { (before : List SpaceAction) (s : Sizes) (d : DeviceState) (calls : Calls) (number : ℕ) (commands : List HostCommand) (runs : List HostRun) (actions : List SpaceAction) (device : List DeviceAction) → AllByRecursion IsPlain commands → AreDoneBy (by_tale s) before s d runs actions device → AreAnswered s d calls device → AllByRecursion (λ a. a.notices ≡ []) device → map (λ x. x.command) runs ≡ commands → map (λ x. x.line.no) runs ≡ range_with_len number (length commands) → device ≡ host_actions s d commands }
 {}
 
 /// An evacuation that fails undoes its isolation last, but for one whose isolation was refused, which does nothing.
@@ -57,4 +62,19 @@ pub fn failed_evacuations_are_undone()
 /// Commands of a small machine, worked out by hand: what is reported of each, and what was done.
 pub fn commands_of_a_small_machine()
     ensures { CommandsOfSmall }
+{}
+
+/// What commands did whose causes are true they did by tales of what they were told.
+pub fn what_is_done_by_truth_is_done_by_tale()
+    ensures { (r : SpaceRun) (s : Sizes) (start : PlainState) (entries : List Entry) (before : List SpaceAction) (d : DeviceState) (runs : List HostRun) (actions : List SpaceAction) (device : List DeviceAction) → AreDoneBy (by_truth r (IsWordOf s start entries)) before s d runs actions device → AreDoneBy (by_tale r.sizes) before s d runs actions device }
+{}
+
+/// A cause that is true of a frame space's journal is true of each longer one.
+pub fn true_causes_stay_true()
+    ensures { (r : SpaceRun) (more : List SpaceAction) (s : Sizes) (start : PlainState) (entries : List Entry) (before : List SpaceAction) (b : BlockNo) (own : List SpaceAction) (cause : EvacCause) → IsCauseTrue r (IsWordOf s start entries) before b own cause → IsCauseTrue (record r { journal = r.journal ++ more }) (IsWordOf s start entries) before b own cause }
+{}
+
+/// Causes of failed evacuations of a small machine, worked out by hand: true ones, and some that aren't.
+pub fn causes_of_a_small_machine()
+    ensures { CausesOfSmall }
 {}

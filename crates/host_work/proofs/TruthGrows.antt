@@ -1,0 +1,190 @@
+-- What is true of a frame space's journal is true of every longer one, and what is true of the words that were found is true
+-- of more words.
+use Rattle.std.proofs.Common.{◌≡◌, ◌≤◌, ℕ, List, [], ◌∷◌, ◌++◌, length, length-append, append_assoc, append-nil, ap, ◌∙◌, subst, arith, Option, None, Some}
+use Rattle.std.proofs.lemmas.List.{take-append-le}
+use Rattle.std.specs.List.{AllByRecursion}
+use Rattle.evac_model.specs.declared.device.Response.{Response}
+use Rattle.evac_model.specs.declared.device_journal.DeviceAction.{DeviceAction}
+use Rattle.evac_model.specs.declared.evacuation.EvacCause.{EvacCause}
+use Rattle.evac_model.specs.declared.evacuation.EvacCause.TheVariants.{Unmovable, Pinned, NoTarget, Busy}
+use Rattle.evac_model.specs.declared.host.HostCommand.{HostCommand}
+use Rattle.evac_model.specs.declared.host.HostCommand.TheVariants.{Request, Config}
+use Rattle.evac_model.specs.declared.host.HostResult.{HostResult}
+use Rattle.evac_model.specs.declared.host.HostResult.TheVariants as results
+use Rattle.evac_model.specs.declared.host.HostRun.{HostRun}
+use Rattle.evac_model.specs.declared.names.BlockNo.{BlockNo}
+use Rattle.evac_model.specs.declared.names.FrameNo.{FrameNo}
+use Rattle.evac_model.specs.declared.names.Kind.TheVariants as kinds
+use Rattle.evac_model.specs.declared.names.PageNo.{PageNo}
+use Rattle.evac_model.specs.declared.space.SpaceAction.{SpaceAction}
+use Rattle.evac_model.specs.declared.space.SpaceAction.TheVariants as space
+use Rattle.evac_model.specs.declared.tried.Tried.{Tried}
+use Rattle.evac_model.specs.DeviceAnswer.{DeviceState, request_in, device_after}
+use Rattle.evac_model.specs.Geometry.{Sizes}
+use Rattle.evac_model.specs.Numbers.{is_in}
+use Rattle.evac_model.specs.Pairing.{actions_of}
+use Rattle.evac_model.specs.SpaceJournal.{SpaceState, IsLeasable, out_for, space_after}
+use Rattle.host_work.specs.Commands.{IsDoneBy, AreDoneBy}
+use Rattle.host_work.specs.Evacuated.{WasEvacuated}
+use Rattle.host_work.specs.Requests.{Evacuates, block_no, blocks_to_empty, AreTakenAway, WasSent, WasNotSent}
+use Rattle.host_work.specs.Truth.{SpaceRun, Finds, stood, driver_did, WasOutAt, WasOut, UnmovableHolds, NoTargetHolds, HoldsFor, IsCauseTrue, HasTrueCause, by_truth}
+
+-- the same frame space with more in its journal
+abbrev pub grown : SpaceRun → List SpaceAction → SpaceRun
+grown r more = record r { journal = r.journal ++ more }
+
+-- one set of found words says what the other says, and maybe more
+abbrev pub FindsMore : (F G : Finds) → Type 0
+FindsMore F G = (page : PageNo) (word : ℕ) → F page word → G page word
+
+-- ---- places of the journal
+
+module _ (r : SpaceRun) (more : List SpaceAction) (place : ℕ) (inside : place ≤ length r.journal) where
+  pub stood_grown : stood (grown r more) place ≡ stood r place
+  stood_grown = ap (λ (l : List SpaceAction). space_after r.sizes r.online r.start l) (take-append-le place r.journal more inside)
+
+  pub did_grown : driver_did (grown r more) place ≡ driver_did r place
+  did_grown = ap (λ (l : List SpaceAction). actions_of 0 l) (take-append-le place r.journal more inside)
+
+  pub inside_grown : place ≤ length (r.journal ++ more)
+  inside_grown = omega (arith, inside, length-append r.journal more)
+
+-- ---- the causes
+
+module _ (r : SpaceRun) (more before : List SpaceAction) where
+  pub was_out_at_grown : (b : BlockNo) (own own_more : List SpaceAction) (frame : FrameNo) (page : PageNo) (place : ℕ) → WasOutAt r before b own frame page place → WasOutAt (grown r more) before b (own ++ own_more) frame page place
+  was_out_at_grown b own own_more frame page place h =
+      let same = stood_grown r more place h.inside in
+      record {
+        inside = inside_grown r more place h.inside;
+        part = h.part;
+        rest = h.rest ++ own_more;
+        parts = ap (λ (l : List SpaceAction). l ++ own_more) h.parts ∙ append_assoc h.part h.rest own_more;
+        done = did_grown r more place h.inside ∙ h.done;
+        isolated = ap (λ (st : SpaceState). is_in b.0 st.isolated) same ∙ h.isolated;
+        out = ap (λ (st : SpaceState). out_for st frame.0) same ∙ h.out;
+      }
+
+  pub was_out_grown : (b : BlockNo) (own own_more : List SpaceAction) (frame : FrameNo) (page : PageNo) → WasOut r before b own frame page → WasOut (grown r more) before b (own ++ own_more) frame page
+  was_out_grown b own own_more frame page h = (h.0, was_out_at_grown b own own_more frame page h.0 h.1)
+
+  was_unmovable_grown : (frame : FrameNo) (page : PageNo) → UnmovableHolds r before frame page → UnmovableHolds (grown r more) before frame page
+  was_unmovable_grown frame page h = record {
+    place = h.place;
+    inside = inside_grown r more h.place h.inside;
+    done = did_grown r more h.place h.inside ∙ h.done;
+    out = ap (λ (st : SpaceState). out_for st frame.0) (stood_grown r more h.place h.inside) ∙ h.out;
+  }
+
+  had_no_target_grown : (b : BlockNo) (own own_more : List SpaceAction) (frame : FrameNo) (page : PageNo) (at : ℕ) → NoTargetHolds r before b own frame page at → NoTargetHolds (grown r more) before b (own ++ own_more) frame page at
+  had_no_target_grown b own own_more frame page at h = record {
+    was_out = was_out_at_grown b own own_more frame page at h.was_out;
+    none_free = λ free leasable. h.none_free free (subst (λ (st : SpaceState). IsLeasable r.sizes r.online st kinds.Movable free) (stood_grown r more at h.was_out.inside) leasable);
+  }
+
+pub all_found : (F G : Finds) → FindsMore F G → (page : PageNo) (words : List ℕ) → AllByRecursion (F page) words → AllByRecursion (G page) words
+all_found F G finds page [] all = tt
+all_found F G finds page (word ∷ words) all = (finds page word all.0, all_found F G finds page words all.1)
+
+module _ (r : SpaceRun) (more : List SpaceAction) (F G : Finds) (finds : FindsMore F G) (before : List SpaceAction) (b : BlockNo) where
+  holds_grown : (own own_more : List SpaceAction) (cause : EvacCause) → HoldsFor r F before b own cause → HoldsFor (grown r more) G before b (own ++ own_more) cause
+  holds_grown own own_more (Unmovable frame page) h = was_unmovable_grown r more before frame page h
+  holds_grown own own_more (Pinned frame page word) h = record {
+    was_out = was_out_grown r more before b own own_more frame page h.was_out;
+    found = finds page word h.found;
+    pinned = h.pinned;
+  }
+  holds_grown own own_more (NoTarget frame page at) h = had_no_target_grown r more before b own own_more frame page at h
+  holds_grown own own_more (Busy frame page words) h = record {
+    was_out = was_out_grown r more before b own own_more frame page h.was_out;
+    five = h.five;
+    found = all_found F G finds page words h.found;
+    busy = h.busy;
+    rising = h.rising;
+  }
+
+  pub true_grown : (own own_more : List SpaceAction) (cause : EvacCause) → IsCauseTrue r F before b own cause → IsCauseTrue (grown r more) G before b (own ++ own_more) cause
+  true_grown own own_more cause h = record { in_block = h.in_block; holds = holds_grown own own_more cause h.holds }
+
+-- ---- an evacuation
+
+pub cause_grown : (r : SpaceRun) (more : List SpaceAction) (F G : Finds) → FindsMore F G → (before : List SpaceAction) (b : BlockNo) (cause : Option EvacCause) (own : List SpaceAction) → HasTrueCause r F before b own cause → HasTrueCause (grown r more) G before b own cause
+cause_grown r more F G finds before b None own h = tt
+cause_grown r more F G finds before b (Some cause) own h =
+    subst (λ (l : List SpaceAction). IsCauseTrue (grown r more) G before b l cause) (append-nil own) (true_grown r more F G finds before b own [] cause h)
+
+pub truth_grown : (r : SpaceRun) (more : List SpaceAction) (F G : Finds) → FindsMore F G → (before : List SpaceAction) (b : BlockNo) (cause : Option EvacCause) (own : List SpaceAction) → by_truth r F before b cause own → by_truth (grown r more) G before b cause own
+truth_grown r more F G finds before b cause own h = (h.0, cause_grown r more F G finds before b cause own h.1)
+
+not_grown : (r : SpaceRun) → grown r [] ≡ r
+not_grown r = ap (λ (l : List SpaceAction). record r { journal = l }) (append-nil r.journal)
+
+-- the same journal, other words
+pub truth_found : (r : SpaceRun) (F G : Finds) → FindsMore F G → (before : List SpaceAction) (b : BlockNo) (cause : Option EvacCause) (own : List SpaceAction) → by_truth r F before b cause own → by_truth r G before b cause own
+truth_found r F G finds before b cause own h =
+    subst (λ (x : SpaceRun). by_truth x G before b cause own) (not_grown r) (truth_grown r [] F G finds before b cause own h)
+
+-- an evacuation that met a true cause, or none, went by a tale
+pub done_by_tale : (r : SpaceRun) (F : Finds) (before : List SpaceAction) (b : BlockNo) (cause : Option EvacCause) (own : List SpaceAction) → by_truth r F before b cause own → WasEvacuated r.sizes b cause own
+done_by_tale r F before b cause own h = h.0
+
+-- ---- commands
+
+-- what the first says of an evacuation says the second, too
+abbrev pub Follows : Evacuates → Evacuates → Type 0
+Follows E G = (before : List SpaceAction) (b : BlockNo) (cause : Option EvacCause) (own : List SpaceAction) → E before b cause own → G before b cause own
+
+module _ (E G : Evacuates) (follows : Follows E G) where
+  pub taken_by : (before : List SpaceAction) (blocks : List ℕ) (actions : List SpaceAction) → AreTakenAway E before blocks actions → AreTakenAway G before blocks actions
+  taken_by before [] actions h = h
+  taken_by before (b ∷ blocks) actions h = (
+    h.0,
+    h.1,
+    h.2,
+    follows before (block_no b) None h.0 h.3,
+    taken_by (before ++ (h.0 ++ space.Offline (block_no b) ∷ [])) blocks h.1 h.4,
+  )
+
+  sent_by : (before : List SpaceAction) (s : Sizes) (d : DeviceState) (bytes : List ℕ) (response : Response) (lines : List Tried) (actions : List SpaceAction) (device : List DeviceAction) → WasSent E before s d bytes response lines actions device → WasSent G before s d bytes response lines actions device
+  sent_by before s d bytes response lines actions device h = record {
+    emptying = h.emptying;
+    taken_away = taken_by before (blocks_to_empty s d (request_in bytes)) h.emptying h.taken_away;
+    made = h.made;
+    sent = h.sent;
+    tried = h.tried;
+  }
+
+  not_sent_by : (before : List SpaceAction) (s : Sizes) (d : DeviceState) (bytes : List ℕ) (lines : List Tried) (actions : List SpaceAction) (device : List DeviceAction) → WasNotSent E before s d bytes lines actions device → WasNotSent G before s d bytes lines actions device
+  not_sent_by before s d bytes lines actions device h = record {
+    before = h.before;
+    block = h.block;
+    behind = h.behind;
+    blocks = h.blocks;
+    cause = h.cause;
+    emptying = h.emptying;
+    taken_away = taken_by before h.before h.emptying h.taken_away;
+    failing = h.failing;
+    failed = follows (before ++ h.emptying) (block_no h.block) (Some h.cause) h.failing h.failed;
+    made = h.made;
+    nothing_sent = h.nothing_sent;
+    tried = h.tried;
+  }
+
+  pub is_done_by : (before : List SpaceAction) (s : Sizes) (d : DeviceState) (c : HostCommand) (result : HostResult) (lines : List Tried) (actions : List SpaceAction) (device : List DeviceAction) → IsDoneBy E before s d c result lines actions device → IsDoneBy G before s d c result lines actions device
+  is_done_by before s d (Request bytes) (results.Answered response) lines actions device h = sent_by before s d bytes response lines actions device h
+  is_done_by before s d (Request bytes) results.Unsent lines actions device h = not_sent_by before s d bytes lines actions device h
+  is_done_by before s d (Request bytes) (results.Config config) lines actions device h = h
+  is_done_by before s d Config result lines actions device h = h
+
+  pub are_done_by : (before : List SpaceAction) (s : Sizes) (d : DeviceState) (runs : List HostRun) (actions : List SpaceAction) (device : List DeviceAction) → AreDoneBy E before s d runs actions device → AreDoneBy G before s d runs actions device
+  are_done_by before s d [] actions device h = h
+  are_done_by before s d (x ∷ xs) actions device h = (
+    h.0,
+    h.1,
+    h.2,
+    h.3,
+    h.4,
+    h.5,
+    is_done_by before s d x.command x.line.result x.line.tried h.0 h.3 h.6,
+    are_done_by (before ++ h.0) s (device_after s d h.3) xs h.1 h.4 h.7,
+  )

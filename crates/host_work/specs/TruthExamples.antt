@@ -1,0 +1,131 @@
+-- Causes of failed evacuations of a small machine that are true, and some that aren't, worked out by hand.
+use Rattle.std.specs.Prelude.{ℕ, List, [], ◌∷◌, ◌++◌, replicate, Some}
+use Rattle.evac_model.specs.declared.call.Call.TheVariants.{Pin, Unpin}
+use Rattle.evac_model.specs.declared.entry.Entry.{Entry}
+use Rattle.evac_model.specs.declared.evacuation.EvacCause.{EvacCause}
+use Rattle.evac_model.specs.declared.evacuation.EvacCause.TheVariants as cause
+use Rattle.evac_model.specs.declared.names.Kind.{Kind}
+use Rattle.evac_model.specs.declared.names.Kind.TheVariants.{Movable, Unmovable}
+use Rattle.evac_model.specs.declared.reply.Reply.TheVariants.{Done}
+use Rattle.evac_model.specs.declared.scenario.StartPage.{StartPage}
+use Rattle.evac_model.specs.declared.space.SpaceAction.{SpaceAction}
+use Rattle.evac_model.specs.PairingExamples.{entry, start_page, full, full_start}
+use Rattle.evac_model.specs.SpaceJournal.{space_at_start}
+use Rattle.evac_model.specs.State.{start_state}
+use Rattle.evacuate.specs.Examples.{frame_no, page_no}
+use Rattle.host_work.specs.Examples.{plugged_machine, isolate, undo, offline, online, attempt, pinned, no_target, busy, unmovable}
+use Rattle.host_work.specs.FoundWords.{IsWordOf}
+use Rattle.host_work.specs.Requests.{block_no}
+use Rattle.host_work.specs.Truth.{SpaceRun, Finds, IsCauseTrue, by_truth}
+
+-- page 0 lies in frame 20, of block 3, and page 7, of that kind, in frame 16, of block 2
+abbrev pub start_with : Kind → List StartPage
+start_with kind = start_page 0 20 Movable ∷ start_page 7 16 kind ∷ []
+
+-- the frame space began with that, and this is its journal
+abbrev pub run_with : Kind → List SpaceAction → SpaceRun
+run_with kind journal = record { sizes = plugged_machine; online = Unmovable; start = space_at_start plugged_machine (start_with kind); journal = journal }
+
+-- owner 1 pins page 0, and takes the pin away
+abbrev pub pin_and_unpin : List Entry
+pin_and_unpin = entry 0 1 0 0 Pin Done ∷ entry 1 1 1 0 Unpin Done ∷ []
+
+-- what those entries say of a word
+abbrev pub word_of_calls : Finds
+word_of_calls = IsWordOf plugged_machine (start_state 2 (start_with Unmovable)) pin_and_unpin
+
+-- ---- what was done
+
+-- block 3 couldn't be emptied, since page 0 was pinned
+abbrev pub one_attempt : List SpaceAction
+one_attempt = isolate 3 ∷ (attempt 0 ++ undo 3 ∷ [])
+
+-- or since it was busy in each of five rounds
+abbrev pub five_attempts : List SpaceAction
+five_attempts = isolate 3 ∷ (attempt 0 ++ (attempt 0 ++ (attempt 0 ++ (attempt 0 ++ (attempt 0 ++ undo 3 ∷ [])))))
+
+-- or since there was no target, and nothing was leased
+abbrev pub not_leased : List SpaceAction
+not_leased = isolate 3 ∷ undo 3 ∷ []
+
+-- block 3 was emptied, and page 0 moved to frame 0
+abbrev pub block_3_emptied : List SpaceAction
+block_3_emptied = isolate 3 ∷ (attempt 20 ++ offline 3 ∷ [])
+
+-- the evacuation of block 3 was all that the frame space saw, and the cause is true of it
+abbrev pub IsTrueBy : List SpaceAction → EvacCause → Type 0
+IsTrueBy journal cause = IsCauseTrue (run_with Unmovable journal) word_of_calls [] (block_no 3) journal cause
+
+-- behind that of block 3 block 2 couldn't be isolated, with a page 7 of that kind, and block 3 was put online again
+abbrev pub run_of_two : Kind → SpaceRun
+run_of_two kind = run_with kind (block_3_emptied ++ online 3 ∷ [])
+
+-- a machine of two frames that are both out: block 0 has frame 1 alone, with page 1
+abbrev pub full_actions : List SpaceAction
+full_actions = isolate 0 ∷ undo 0 ∷ []
+
+abbrev pub full_run : SpaceRun
+full_run = record { sizes = full; online = Movable; start = space_at_start full full_start; journal = full_actions }
+
+-- ---- causes
+
+-- there was no target for page 1 behind so many actions
+abbrev pub no_target_in_full : ℕ → EvacCause
+no_target_in_full at = cause.NoTarget (frame_no 1) (page_no 1) at
+
+-- page 0 was pinned in that frame, by that word
+abbrev pub pinned_by : (frame word : ℕ) → EvacCause
+pinned_by frame word = cause.Pinned (frame_no frame) (page_no 0) word
+
+-- page 0 was busy, by those words
+abbrev pub busy_by : List ℕ → EvacCause
+busy_by words = cause.Busy (frame_no 20) (page_no 0) words
+
+-- taken, and with bound 0, as the words of `busy` are; the same with bound 1, which the pin made; and with bound 2, which the
+-- unpin made, the last call
+abbrev pub taken_at_first : ℕ
+taken_at_first = 20485
+
+abbrev pub taken_behind_pin : ℕ
+taken_behind_pin = 1073762309
+
+abbrev pub taken_behind_all : ℕ
+taken_behind_all = 2147504133
+
+-- that of `pinned`, which has a pin and bound 1
+abbrev pub pinned_behind_pin : ℕ
+pinned_behind_pin = 1073762324
+
+-- with bound 0 and a pin
+abbrev pub pinned_at_first : ℕ
+pinned_at_first = 20500
+
+-- the same in frame 21
+abbrev pub pinned_in_21 : ℕ
+pinned_in_21 = 1073763348
+
+pub record CausesOfSmall : Type 0 where
+  pub pinned_page : by_truth (run_with Unmovable one_attempt) word_of_calls [] (block_no 3) (Some pinned) one_attempt
+  pub five_busy_rounds : by_truth (run_with Unmovable five_attempts) word_of_calls [] (block_no 3) (Some busy) five_attempts
+  pub unmovable_behind_an_emptied_block : by_truth (run_of_two Unmovable) word_of_calls block_3_emptied (block_no 2) (Some unmovable) []
+  pub no_target_left : by_truth full_run word_of_calls [] (block_no 0) (Some (no_target_in_full 1)) full_actions
+  -- a taken word that no later call of the page used, a pin that no call had made, and a word of another page
+  pub no_call_behind_it : ¬ word_of_calls (page_no 0) taken_behind_all
+  pub pin_of_no_call : ¬ word_of_calls (page_no 0) pinned_at_first
+  pub word_of_another_page : ¬ word_of_calls (page_no 1) pinned_behind_pin
+  pub pinned_by_no_call : ¬ IsTrueBy one_attempt (pinned_by 20 pinned_at_first)
+  -- the page was never out in that frame
+  pub in_another_frame : ¬ IsTrueBy one_attempt (pinned_by 21 pinned_in_21)
+  pub in_another_block : ¬ IsCauseTrue (run_with Unmovable one_attempt) word_of_calls [] (block_no 2) one_attempt pinned
+  pub four_words : ¬ IsTrueBy five_attempts (busy_by (replicate 4 taken_at_first))
+  pub falling_bounds : ¬ IsTrueBy five_attempts (busy_by (taken_behind_pin ∷ replicate 4 taken_at_first))
+  pub busy_for_no_call : ¬ IsTrueBy five_attempts (busy_by (replicate 4 taken_at_first ++ taken_behind_all ∷ []))
+  -- the page was a movable one, which doesn't keep its block from being isolated
+  pub movable_page : ¬ IsCauseTrue (run_of_two Movable) word_of_calls block_3_emptied (block_no 2) [] unmovable
+  -- frame 0 was free
+  pub with_a_free_frame : ¬ IsTrueBy not_leased no_target
+  pub before_the_isolation : ¬ IsCauseTrue full_run word_of_calls [] (block_no 0) full_actions (no_target_in_full 0)
+  pub behind_the_undo : ¬ IsCauseTrue full_run word_of_calls [] (block_no 0) full_actions (no_target_in_full 2)
+  pub past_the_journal : ¬ IsCauseTrue full_run word_of_calls [] (block_no 0) full_actions (no_target_in_full 3)
+  -- the place is one of the evacuation before
+  pub in_an_earlier_evacuation : ¬ IsCauseTrue (run_with Unmovable (one_attempt ++ not_leased)) word_of_calls one_attempt (block_no 3) not_leased no_target
