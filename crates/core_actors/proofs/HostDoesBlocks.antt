@@ -23,7 +23,7 @@ use Rattle.evac_model.specs.HostCommands.{request_action, blocks_of, plugged_by,
 use Rattle.evac_model.specs.Pairing.{actions_of}
 use Rattle.evac_model.proofs.Lists.{all_push}
 use Rattle.evacuate.specs.Tale.{Tale, nothing_tried}
-use Rattle.host_work.specs.Evacuated.{WasEvacuated, by_tale}
+use Rattle.host_work.specs.Evacuated.{WasEvacuated}
 use Rattle.host_work.specs.Requests.{block_no, blocks_to_empty, blocks_back, AreTakenAway, emptied_lines}
 use Rattle.machine.specs.Consistent.{IsSetting, IsConsistent}
 use Rattle.machine.specs.Made.{Made, made}
@@ -31,26 +31,28 @@ use Rattle.machine.specs.MayMake.{MayMake}
 use Rattle.machine.specs.World.{Setting, World, device_now, device_at, calls_now}
 use Rattle.core_actors.specs.declared.host_place.HostPlace.{HostPlace}
 use Rattle.core_actors.specs.declared.host_place.HostPlace.TheVariants as places
-use Rattle.core_actors.specs.HostDid.{run_list, taken_away, HasTaken, evacuation_did, IsDoingZeros, IsDoingAt, IsDoneFor, HostDid}
+use Rattle.core_actors.specs.HostDid.{run_list, taken_away, HasTaken, IsDoingZeros, IsDoingAt, IsDoneFor, HostDid}
+use Rattle.core_actors.specs.HostFound.{truth, evacuation_did}
 use Rattle.core_actors.specs.HostHears.{answered, taken_on, with_result, host_after, line_after}
 use Rattle.core_actors.specs.HostSeat.{HostSeat}
 use Rattle.core_actors.specs.HostSpace.{HostSpace, IsZeroing, IsPlacedAt, tale_heard}
 use Rattle.core_actors.specs.Hosts.{HostState, away, first_of, with_next_block, next_block, host_ended, host_action}
-use Rattle.core_actors.proofs.HostDoesLists.{own_push, from_place, down_to, taken_still, taken_one_more, put_one_more, begins_to_put, AreUntold, no_line, result_did}
+use Rattle.evac_model.proofs.Pushes.{own_push}
+use Rattle.core_actors.proofs.HostDoesLists.{from_place, down_to, taken_still, taken_one_more, put_one_more, begins_to_put, AreUntold, no_line, result_did}
 use Rattle.core_actors.proofs.HostPlaces.{IsBlockPlace}
 
-module _ (c : Setting) (w : World) (runs : List HostRun) (t : Tale) (g : HostState) (command : HostCommand) (cs : List HostCommand) where
+module _ (c : Setting) (y w : World) (runs : List HostRun) (t : Tale) (g : HostState) (command : HostCommand) (cs : List HostCommand) where
   abbrev host : HostPlace → HostState
   host place = record g { left = command ∷ cs; place = place }
 
   -- what holds behind what was made
   abbrev Behind : HostState → Made → Type 0
-  Behind h m = HostDid c m.world (runs ++ run_list h.left (line_after (device_now c m.world).plugged h m.heard)) (host_after (device_now c m.world).plugged h m.heard) (tale_heard h t m.heard)
+  Behind h m = HostDid c y m.world (runs ++ run_list h.left (line_after (device_now c m.world).plugged h m.heard)) (host_after (device_now c m.world).plugged h m.heard) (tale_heard h t m.heard)
 
   -- the command goes on
-  module _ (x : World) (place : HostPlace) (did : HostDid c w runs (host place) t) (same : x.device ≡ w.device) where
-    on : (h : HostState) (u : Tale) → h.number ≡ g.number → IsDoingAt c x did.done did.sent h u h.place → HostDid c x (runs ++ run_list (command ∷ cs) None) h u
-    on h u number doing = no_line c x runs (command ∷ cs) h u (record {
+  module _ (x : World) (place : HostPlace) (did : HostDid c y w runs (host place) t) (same : x.device ≡ w.device) where
+    on : (h : HostState) (u : Tale) → h.number ≡ g.number → IsDoingAt c y x did.done did.sent h u h.place → HostDid c y x (runs ++ run_list (command ∷ cs) None) h u
+    on h u number doing = no_line c y x runs (command ∷ cs) h u (record {
       done = did.done;
       sent = did.sent;
       ended = did.ended;
@@ -61,7 +63,7 @@ module _ (c : Setting) (w : World) (runs : List HostRun) (t : Tale) (g : HostSta
 
   -- ---- an emptied block is taken away
 
-  taking_away : HostDid c w runs (host places.TakingAway) t → IsPlacedAt c w (host places.TakingAway) t places.TakingAway → Behind (host places.TakingAway) (made c 0 w (host_action (host places.TakingAway)))
+  taking_away : HostDid c y w runs (host places.TakingAway) t → IsPlacedAt c w (host places.TakingAway) t places.TakingAway → Behind (host places.TakingAway) (made c 0 w (host_action (host places.TakingAway)))
   taking_away did place =
       let m : Made = made c 0 w (host_action (host places.TakingAway)) in
       let b : ℕ = g.evacuation.block.0 in
@@ -70,23 +72,23 @@ module _ (c : Setting) (w : World) (runs : List HostRun) (t : Tale) (g : HostSta
       let waits : suc (g.waiting - 1) ≡ g.waiting = omega arith in
       let taken : reverse (drop (g.waiting - 1) g.blocks) ≡ taken_away g ++ b ∷ [] =
       down_to g.blocks (g.waiting - 1) b p.block ∙ ap (λ (k : ℕ). reverse (drop k g.blocks) ++ b ∷ []) waits in
-      let emptied : WasEvacuated c.sizes (block_no b) None (evacuation_did g t) =
+      let emptied : WasEvacuated c.sizes (block_no b) None (evacuation_did g.evacuation t) =
       record { evacuation = g.evacuation; tale = t; sizes = p.sizes; block = refl; ended = place.1; goes_by = p.goes_by; made = refl } in
-      let has : HasTaken c m.world did.done did.sent (taken_away g ++ b ∷ []) [] =
-      taken_one_more c w m.world did.done did.sent (taken_away g) (evacuation_did g t) b did.doing.0 emptied (own_push 0 w.space (space.Offline g.evacuation.block) refl) refl in
+      let has : HasTaken c y m.world did.done did.sent (taken_away g ++ b ∷ []) [] =
+      taken_one_more c y w m.world did.done did.sent (taken_away g) (evacuation_did g.evacuation t) b did.doing.0 (emptied, tt) (own_push 0 w.space (space.Offline g.evacuation.block) refl) refl in
       on m.world places.TakingAway did refl (taken_on (host places.TakingAway)) t refl (
-        subst (λ (l : List ℕ). HasTaken c m.world did.done did.sent l []) (sym taken) has,
+        subst (λ (l : List ℕ). HasTaken c y m.world did.done did.sent l []) (sym taken) has,
         did.doing.1 ∙ ap (λ (k : ℕ). emptied_lines (reverse (drop k g.blocks))) (sym waits),
       )
 
   -- ---- its cells are zeroed
 
-  module _ (x : World) (still : actions_of 0 x.space ≡ actions_of 0 w.space) (same : x.device ≡ w.device) (place : HostPlace) (did : HostDid c w runs (host place) t) (doing : IsDoingZeros c w did.done did.sent g) where
-    zeros_now : IsDoingZeros c x did.done did.sent g
-    zeros_now = (taken_still c w x did.done did.sent (taken_away g) [] doing.0 still same, doing.1)
+  module _ (x : World) (still : actions_of 0 x.space ≡ actions_of 0 w.space) (same : x.device ≡ w.device) (place : HostPlace) (did : HostDid c y w runs (host place) t) (doing : IsDoingZeros c y w did.done did.sent g) where
+    zeros_now : IsDoingZeros c y x did.done did.sent g
+    zeros_now = (taken_still c y w x did.done did.sent (taken_away g) [] doing.0 still same, doing.1)
 
     zeroed : (u : Tale) (frame : FrameNo) (cell : ℕ) (more : Bool)
-        → HostDid c x (runs ++ run_list (command ∷ cs) None) (record g { left = command ∷ cs; place = if more then places.Zeroing frame (cell + 1) else places.MarkingZeros frame }) u
+        → HostDid c y x (runs ++ run_list (command ∷ cs) None) (record g { left = command ∷ cs; place = if more then places.Zeroing frame (cell + 1) else places.MarkingZeros frame }) u
     zeroed u frame cell true = on x place did same (host (places.Zeroing frame (cell + 1))) u refl zeros_now
     zeroed u frame cell false = on x place did same (host (places.MarkingZeros frame)) u refl zeros_now
 
@@ -101,28 +103,28 @@ module _ (c : Setting) (w : World) (runs : List HostRun) (t : Tale) (g : HostSta
         ∙ (sym (map-append (λ (k : ℕ). record { block = block_no k; result = tried_results.Emptied }) (reverse (drop (suc g.waiting) g.blocks)) (b ∷ []))
         ∙ ap (λ (l : List ℕ). emptied_lines l) (sym (down_to g.blocks g.waiting b last)))
 
-    next_by : (waiting : ℕ) → waiting ≡ g.waiting → slice_get g.blocks g.waiting ≡ Some g.evacuation.block.0 → HostDid c x (runs ++ run_list (command ∷ cs) None) (with_next_block waiting written) nothing_tried
+    next_by : (waiting : ℕ) → waiting ≡ g.waiting → slice_get g.blocks g.waiting ≡ Some g.evacuation.block.0 → HostDid c y x (runs ++ run_list (command ∷ cs) None) (with_next_block waiting written) nothing_tried
     next_by zero is last = on x place did same (with_next_block zero written) nothing_tried refl (zeros_now.0, lines last)
     next_by (suc n) is last = on x place did same (with_next_block (suc n) written) nothing_tried refl (zeros_now.0, lines last)
 
     marked : (frame : FrameNo) (more : Bool) → slice_get g.blocks g.waiting ≡ Some g.evacuation.block.0
-        → HostDid c x (runs ++ run_list (command ∷ cs) None) (if more then record g { left = command ∷ cs; place = places.Zeroing (record { 0 = frame.0 + 1 }) 0 } else next_block written) nothing_tried
+        → HostDid c y x (runs ++ run_list (command ∷ cs) None) (if more then record g { left = command ∷ cs; place = places.Zeroing (record { 0 = frame.0 + 1 }) 0 } else next_block written) nothing_tried
     marked frame true last = on x place did same (host (places.Zeroing (record { 0 = frame.0 + 1 }) 0)) nothing_tried refl zeros_now
     marked frame false last = next_by g.waiting refl last
 
-  zeroing : (frame : FrameNo) (cell : ℕ) → HostDid c w runs (host (places.Zeroing frame cell)) t → Behind (host (places.Zeroing frame cell)) (made c 0 w (host_action (host (places.Zeroing frame cell))))
+  zeroing : (frame : FrameNo) (cell : ℕ) → HostDid c y w runs (host (places.Zeroing frame cell)) t → Behind (host (places.Zeroing frame cell)) (made c 0 w (host_action (host (places.Zeroing frame cell))))
   zeroing frame cell did =
       let m : Made = made c 0 w (host_action (host (places.Zeroing frame cell))) in
       zeroed m.world refl refl (places.Zeroing frame cell) did did.doing t frame cell (nat_lt (cell + 1) g.sizes.cells)
 
-  marking : (frame : FrameNo) → HostDid c w runs (host (places.MarkingZeros frame)) t → IsZeroing c w (host (places.MarkingZeros frame)) frame → Behind (host (places.MarkingZeros frame)) (made c 0 w (host_action (host (places.MarkingZeros frame))))
+  marking : (frame : FrameNo) → HostDid c y w runs (host (places.MarkingZeros frame)) t → IsZeroing c w (host (places.MarkingZeros frame)) frame → Behind (host (places.MarkingZeros frame)) (made c 0 w (host_action (host (places.MarkingZeros frame))))
   marking frame did zeros =
       let m : Made = made c 0 w (host_action (host (places.MarkingZeros frame))) in
       marked m.world refl refl (places.MarkingZeros frame) did did.doing frame (nat_lt (frame.0 + 1) (first_frame g.sizes g.evacuation.block.0 + g.sizes.block)) zeros.block
 
   -- ---- blocks are put online
 
-  putting : (result : HostResult) → HostDid c w runs (host (places.PuttingOnline result)) t → g.waiting < length g.blocks → Behind (host (places.PuttingOnline result)) (made c 0 w (host_action (host (places.PuttingOnline result))))
+  putting : (result : HostResult) → HostDid c y w runs (host (places.PuttingOnline result)) t → g.waiting < length g.blocks → Behind (host (places.PuttingOnline result)) (made c 0 w (host_action (host (places.PuttingOnline result))))
   putting result did some =
       let h : HostState = host (places.PuttingOnline result) in
       let m : Made = made c 0 w (host_action h) in
@@ -131,12 +133,12 @@ module _ (c : Setting) (w : World) (runs : List HostRun) (t : Tale) (g : HostSta
       let first : first_of (away g) ≡ b = ap (λ (l : List ℕ). first_of l) (from_place g.blocks g.waiting b at) in
       let more : actions_of 0 m.world.space ≡ actions_of 0 w.space ++ space.Online (block_no b) ∷ [] =
       own_push 0 w.space (space.Online (block_no (first_of (away g)))) refl ∙ ap (λ (k : ℕ). actions_of 0 w.space ++ space.Online (block_no k) ∷ []) first in
-      result_did c m.world runs did.done did.sent (device_now c m.world).plugged (record h { waiting = g.waiting + 1 }) result did.ended did.numbers did.no_notices
-      (put_one_more c w m.world did.done did.sent h result b at did.doing more refl)
+      result_did c y m.world runs did.done did.sent (device_now c m.world).plugged (record h { waiting = g.waiting + 1 }) result did.ended did.numbers did.no_notices
+      (put_one_more c y w m.world did.done did.sent h result b at did.doing more refl)
 
 -- ---- the device is asked
 
-module _ (c : Setting) (w x : World) (runs : List HostRun) (t : Tale) (g : HostState) (command : HostCommand) (cs : List HostCommand) (plugged : List ℕ) (still : actions_of 0 x.space ≡ actions_of 0 w.space) (did : HostDid c w runs (record g { left = command ∷ cs; place = places.Asking }) t) where
+module _ (c : Setting) (y w x : World) (runs : List HostRun) (t : Tale) (g : HostState) (command : HostCommand) (cs : List HostCommand) (plugged : List ℕ) (still : actions_of 0 x.space ≡ actions_of 0 w.space) (did : HostDid c y w runs (record g { left = command ∷ cs; place = places.Asking }) t) where
   abbrev emptying : List SpaceAction
   emptying = did.doing.0.emptying
 
@@ -144,15 +146,15 @@ module _ (c : Setting) (w x : World) (runs : List HostRun) (t : Tale) (g : HostS
   emptied = still ∙ (did.doing.0.made ∙ ap (λ (l : List SpaceAction). did.done ++ l) (append-nil emptying))
 
   -- the command has that result, and these of its blocks or of others are to be put online
-  has_result : (blocks : List ℕ) (waiting : ℕ) (result : HostResult) (mine : List DeviceAction) → x.device ≡ w.device ++ mine → AreUntold x.device → IsDoneFor c (command ∷ cs) did.done did.sent result g.tried (emptying ++ put_online (drop waiting blocks)) mine
+  has_result : (blocks : List ℕ) (waiting : ℕ) (result : HostResult) (mine : List DeviceAction) → x.device ≡ w.device ++ mine → AreUntold x.device → IsDoneFor c y (command ∷ cs) did.done did.sent result g.tried (emptying ++ put_online (drop waiting blocks)) mine
       → let h : HostState = record g { left = command ∷ cs; place = places.Asking; blocks = blocks; waiting = waiting } in
-      HostDid c x (runs ++ run_list (command ∷ cs) (with_result plugged h result).line) (with_result plugged h result).state nothing_tried
+      HostDid c y x (runs ++ run_list (command ∷ cs) (with_result plugged h result).line) (with_result plugged h result).state nothing_tried
   has_result blocks waiting result mine same untold whole =
       let h : HostState = record g { left = command ∷ cs; place = places.Asking; blocks = blocks; waiting = waiting } in
-      result_did c x runs did.done did.sent plugged h result did.ended did.numbers untold
-      (begins_to_put c x did.done did.sent h result emptying mine emptied (same ∙ ap (λ (j : List DeviceAction). j ++ mine) did.doing.0.nothing_sent) whole)
+      result_did c y x runs did.done did.sent plugged h result did.ended did.numbers untold
+      (begins_to_put c y x did.done did.sent h result emptying mine emptied (same ∙ ap (λ (j : List DeviceAction). j ++ mine) did.doing.0.nothing_sent) whole)
 
-module _ (c : Setting) (w x : World) (runs : List HostRun) (t : Tale) (g : HostState) (bytes : List ℕ) (cs : List HostCommand) (plugged : List ℕ) (still : actions_of 0 x.space ≡ actions_of 0 w.space) (did : HostDid c w runs (record g { left = Request bytes ∷ cs; place = places.Asking }) t) (none : g.waiting ≡ 0)
+module _ (c : Setting) (y w x : World) (runs : List HostRun) (t : Tale) (g : HostState) (bytes : List ℕ) (cs : List HostCommand) (plugged : List ℕ) (still : actions_of 0 x.space ≡ actions_of 0 w.space) (did : HostDid c y w runs (record g { left = Request bytes ∷ cs; place = places.Asking }) t) (none : g.waiting ≡ 0)
     (sizes : g.sizes ≡ c.sizes) (named : g.blocks ≡ named_blocks c.sizes (device_at c.sizes did.sent).plugged (request_in bytes)) where
   abbrev stood : DeviceState
   stood = device_at c.sizes did.sent
@@ -165,10 +167,10 @@ module _ (c : Setting) (w x : World) (runs : List HostRun) (t : Tale) (g : HostS
   all_named = ap (λ (l : List ℕ). reverse l) all_away
 
   was_sent : (response : Response) (back : List ℕ) → back ≡ blocks_back c.sizes stood (request_in bytes) response
-      → IsDoneFor c (Request bytes ∷ cs) did.done did.sent (results.Answered response) g.tried (did.doing.0.emptying ++ put_online back) (request_action bytes response ∷ [])
+      → IsDoneFor c y (Request bytes ∷ cs) did.done did.sent (results.Answered response) g.tried (did.doing.0.emptying ++ put_online back) (request_action bytes response ∷ [])
   was_sent response back is = record {
     emptying = did.doing.0.emptying;
-    taken_away = subst (λ (l : List ℕ). AreTakenAway (by_tale c.sizes) did.done l did.doing.0.emptying) all_named did.doing.0.taken;
+    taken_away = subst (λ (l : List ℕ). AreTakenAway (truth c y) did.done l did.doing.0.emptying) all_named did.doing.0.taken;
     made = ap (λ (l : List ℕ). did.doing.0.emptying ++ put_online l) is;
     sent = refl;
     tried = did.doing.1 ∙ ap (λ (l : List ℕ). emptied_lines l) all_named;
@@ -178,12 +180,12 @@ module _ (c : Setting) (w x : World) (runs : List HostRun) (t : Tale) (g : HostS
   asking = record g { left = Request bytes ∷ cs; place = places.Asking }
 
   abbrev Answers : Response → HostState → Type 0
-  Answers response h = HostDid c x (runs ++ run_list (Request bytes ∷ cs) (with_result plugged h (results.Answered response)).line) (with_result plugged h (results.Answered response)).state nothing_tried
+  Answers response h = HostDid c y x (runs ++ run_list (Request bytes ∷ cs) (with_result plugged h (results.Answered response)).line) (with_result plugged h (results.Answered response)).state nothing_tried
 
   answers : (response : Response) (blocks : List ℕ) (waiting : ℕ) → x.device ≡ w.device ++ request_action bytes response ∷ [] → drop waiting blocks ≡ blocks_back c.sizes stood (request_in bytes) response
       → Answers response (record asking { blocks = blocks; waiting = waiting })
   answers response blocks waiting same is =
-      has_result c w x runs t g (Request bytes) cs plugged still did blocks waiting (results.Answered response) (request_action bytes response ∷ []) same
+      has_result c y w x runs t g (Request bytes) cs plugged still did blocks waiting (results.Answered response) (request_action bytes response ∷ []) same
       (subst AreUntold (sym same) (all_push (λ (a : DeviceAction). a.notices ≡ []) w.device did.no_notices (request_action bytes response) refl)) (was_sent response (drop waiting blocks) is)
 
   -- by the answer
@@ -194,7 +196,7 @@ module _ (c : Setting) (w x : World) (runs : List HostRun) (t : Tale) (g : HostS
   asked Busy same = answers Busy g.blocks g.waiting same all_away
   asked Error same = answers Error g.blocks g.waiting same all_away
 
-module _ (c : Setting) (w : World) (runs : List HostRun) (t : Tale) (g : HostState) where
+module _ (c : Setting) (y w : World) (runs : List HostRun) (t : Tale) (g : HostState) where
   abbrev standing : List HostCommand → HostPlace → HostState
   standing left place = record g { left = left; place = place }
 
@@ -202,40 +204,40 @@ module _ (c : Setting) (w : World) (runs : List HostRun) (t : Tale) (g : HostSta
   abbrev After : HostState → Type 0
   After h =
       let x : Made = made c 0 w (host_action h) in
-      HostDid c x.world (runs ++ run_list h.left (line_after (device_now c x.world).plugged h x.heard)) (host_after (device_now c x.world).plugged h x.heard) (tale_heard h t x.heard)
+      HostDid c y x.world (runs ++ run_list h.left (line_after (device_now c x.world).plugged h x.heard)) (host_after (device_now c x.world).plugged h x.heard) (tale_heard h t x.heard)
 
-  read_config : (cs : List HostCommand) → HostDid c w runs (standing (Config ∷ cs) places.Asking) t → g.waiting ≡ 0 → g.blocks ≡ [] → After (standing (Config ∷ cs) places.Asking)
+  read_config : (cs : List HostCommand) → HostDid c y w runs (standing (Config ∷ cs) places.Asking) t → g.waiting ≡ 0 → g.blocks ≡ [] → After (standing (Config ∷ cs) places.Asking)
   read_config cs did none no_blocks =
       let all : away g ≡ [] = ap (λ (k : ℕ). drop k g.blocks) none ∙ no_blocks in
-      let nothing : did.doing.0.emptying ≡ [] = subst (λ (l : List ℕ). AreTakenAway (by_tale c.sizes) did.done (reverse l) did.doing.0.emptying) all did.doing.0.taken in
-      has_result c w w runs t g Config cs (device_now c w).plugged refl did g.blocks g.waiting (results.Config (config_of c.sizes (device_now c w))) [] (sym (append-nil w.device)) did.no_notices (record {
+      let nothing : did.doing.0.emptying ≡ [] = subst (λ (l : List ℕ). AreTakenAway (truth c y) did.done (reverse l) did.doing.0.emptying) all did.doing.0.taken in
+      has_result c y w w runs t g Config cs (device_now c w).plugged refl did g.blocks g.waiting (results.Config (config_of c.sizes (device_now c w))) [] (sym (append-nil w.device)) did.no_notices (record {
         told = ap (λ (j : List DeviceAction). results.Config (config_of c.sizes (device_at c.sizes j))) did.doing.0.nothing_sent;
         tried = did.doing.1 ∙ ap (λ (l : List ℕ). emptied_lines (reverse l)) all;
         nothing_made = ap (λ (l : List ℕ). did.doing.0.emptying ++ put_online l) all ∙ (append-nil did.doing.0.emptying ∙ nothing);
         nothing_sent = refl;
       })
 
-  at_asking : (command : HostCommand) (cs : List HostCommand) → HostDid c w runs (standing (command ∷ cs) places.Asking) t → IsPlacedAt c w (standing (command ∷ cs) places.Asking) t places.Asking → g.sizes ≡ c.sizes → After (standing (command ∷ cs) places.Asking)
+  at_asking : (command : HostCommand) (cs : List HostCommand) → HostDid c y w runs (standing (command ∷ cs) places.Asking) t → IsPlacedAt c w (standing (command ∷ cs) places.Asking) t places.Asking → g.sizes ≡ c.sizes → After (standing (command ∷ cs) places.Asking)
   at_asking (Request bytes) cs did place sizes =
       let x : World = (made c 0 w (host_action (standing (Request bytes ∷ cs) places.Asking))).world in
-      asked c w x runs t g bytes cs (device_now c x).plugged refl did place.0 sizes
+      asked c y w x runs t g bytes cs (device_now c x).plugged refl did place.0 sizes
       (subst (λ (j : List DeviceAction). g.blocks ≡ named_blocks c.sizes (device_at c.sizes j).plugged (request_in bytes)) did.doing.0.nothing_sent place.1)
       (answer_to c.sizes (device_now c w) (calls_now c w) bytes) refl
   at_asking Config cs did place sizes = read_config cs did place.0 place.1
 
   -- ---- any of these actions
 
-  at_place : (left : List HostCommand) (place : HostPlace) → HostDid c w runs (standing left place) t → IsPlacedAt c w (standing left place) t place → g.sizes ≡ c.sizes → host_ended (standing left place) ≡ false → IsBlockPlace place → After (standing left place)
+  at_place : (left : List HostCommand) (place : HostPlace) → HostDid c y w runs (standing left place) t → IsPlacedAt c w (standing left place) t place → g.sizes ≡ c.sizes → host_ended (standing left place) ≡ false → IsBlockPlace place → After (standing left place)
   at_place [] place did at sizes going block = absurd (cc)
   at_place (command ∷ cs) places.Asking did at sizes going block = at_asking command cs did at sizes
   at_place (command ∷ cs) places.Evacuating did at sizes going block = absurd block
   at_place (command ∷ cs) (places.Moving lease move) did at sizes going block = absurd block
-  at_place (command ∷ cs) places.TakingAway did at sizes going block = taking_away c w runs t g command cs did at
-  at_place (command ∷ cs) (places.Zeroing frame cell) did at sizes going block = zeroing c w runs t g command cs frame cell did
-  at_place (command ∷ cs) (places.MarkingZeros frame) did at sizes going block = marking c w runs t g command cs frame did at
-  at_place (command ∷ cs) (places.PuttingOnline result) did at sizes going block = putting c w runs t g command cs result did at
+  at_place (command ∷ cs) places.TakingAway did at sizes going block = taking_away c y w runs t g command cs did at
+  at_place (command ∷ cs) (places.Zeroing frame cell) did at sizes going block = zeroing c y w runs t g command cs frame cell did
+  at_place (command ∷ cs) (places.MarkingZeros frame) did at sizes going block = marking c y w runs t g command cs frame did at
+  at_place (command ∷ cs) (places.PuttingOnline result) did at sizes going block = putting c y w runs t g command cs result did at
 
-pub did_after_block : (c : Setting) (w : World) (h : HostState) (t : Tale) (runs : List HostRun) → IsSetting c → IsConsistent c w → HostSeat c w h → HostSpace c w h t → HostDid c w runs h t → host_ended h ≡ false → IsBlockPlace h.place → MayMake c 0 w (host_action h)
+pub did_after_block : (c : Setting) (y w : World) (h : HostState) (t : Tale) (runs : List HostRun) → IsSetting c → IsConsistent c w → HostSeat c w h → HostSpace c w h t → HostDid c y w runs h t → host_ended h ≡ false → IsBlockPlace h.place → MayMake c 0 w (host_action h)
     → let x : Made = made c 0 w (host_action h) in
-    HostDid c x.world (runs ++ run_list h.left (line_after (device_now c x.world).plugged h x.heard)) (host_after (device_now c x.world).plugged h x.heard) (tale_heard h t x.heard)
-did_after_block c w h t runs set kept seat space did going block may = at_place c w runs t h h.left h.place did space.place space.sizes going block
+    HostDid c y x.world (runs ++ run_list h.left (line_after (device_now c x.world).plugged h x.heard)) (host_after (device_now c x.world).plugged h x.heard) (tale_heard h t x.heard)
+did_after_block c y w h t runs set kept seat space did going block may = at_place c y w runs t h h.left h.place did space.place space.sizes going block

@@ -1,8 +1,7 @@
 -- What the host's commands did, as lists: with one action, one block or one command more.
-use Rattle.std.proofs.Common.{◌≡◌, ◌≢◌, ℕ, zero, suc, ◌+◌, ◌==◌, cond, Bool, List, [], ◌∷◌, ◌++◌, length, map, reverse, take, drop, append_assoc, append-nil, refl, sym, ap, ◌∙◌, subst, arith, eq-eqb, ne_eqb, Some, None}
+use Rattle.std.proofs.Common.{◌≡◌, ℕ, zero, suc, ◌+◌, List, [], ◌∷◌, ◌++◌, length, map, reverse, take, drop, append_assoc, append-nil, refl, sym, ap, ◌∙◌, subst, arith, Some, None}
 use Rattle.std.specs.List.{AllByRecursion, range_with_len, slice_get}
 use Rattle.std.proofs.lemmas.List.{reverse-append, take-append-drop, map_push, drop_all}
-use Rattle.std.proofs.lemmas.List.Elements.{filter-append}
 use Rattle.evac_model.specs.declared.device_journal.DeviceAction.{DeviceAction}
 use Rattle.evac_model.specs.declared.host.HostCommand.{HostCommand}
 use Rattle.evac_model.specs.declared.host.HostResult.{HostResult}
@@ -12,29 +11,16 @@ use Rattle.evac_model.specs.declared.space.SpaceAction.TheVariants as space
 use Rattle.evac_model.specs.DeviceAnswer.{DeviceState, device_at_start, device_after, after_act}
 use Rattle.evac_model.specs.Geometry.{Sizes}
 use Rattle.evac_model.specs.HostCommands.{put_online}
-use Rattle.evac_model.specs.Pairing.{caller_of, actions_of}
+use Rattle.evac_model.specs.Pairing.{actions_of}
 use Rattle.evacuate.specs.Tale.{Tale, nothing_tried}
 use Rattle.host_work.specs.Commands.{IsDoneBy, AreDoneBy}
-use Rattle.host_work.specs.Evacuated.{by_tale}
 use Rattle.host_work.specs.Requests.{Evacuates, block_no, AreTakenAway, emptied_lines}
 use Rattle.machine.specs.World.{Setting, World}
 use Rattle.core_actors.specs.declared.host_place.HostPlace.TheVariants as places
 use Rattle.core_actors.specs.HostDid.{run_list, HasTaken, IsDoneFor, IsPutting, HostDid}
+use Rattle.core_actors.specs.HostFound.{truth}
 use Rattle.core_actors.specs.HostHears.{line_of, ends_without, with_result}
 use Rattle.core_actors.specs.Hosts.{HostState, away, command_blocks, with_blocks, command_begun}
-
--- ---- whose actions
-
-pub own_push : (who : ℕ) (journal : List SpaceAction) (x : SpaceAction) → caller_of x ≡ who → actions_of who (journal ++ x ∷ []) ≡ actions_of who journal ++ x ∷ []
-own_push who journal x own =
-    filter-append (λ (a : SpaceAction). caller_of a == who) journal (x ∷ [])
-    ∙ ap (λ (b : Bool). actions_of who journal ++ cond b (x ∷ []) []) (eq-eqb (caller_of x) who own)
-
-pub other_push : (who : ℕ) (journal : List SpaceAction) (x : SpaceAction) → caller_of x ≢ who → actions_of who (journal ++ x ∷ []) ≡ actions_of who journal
-other_push who journal x other =
-    filter-append (λ (a : SpaceAction). caller_of a == who) journal (x ∷ [])
-    ∙ (ap (λ (b : Bool). actions_of who journal ++ cond b (x ∷ []) []) (ne_eqb (caller_of x) who other)
-    ∙ append-nil (actions_of who journal))
 
 -- ---- blocks from a place on
 
@@ -134,42 +120,37 @@ done_push E before s d (r ∷ runs) x done actions sent device h one =
 -- ---- the command under way, one action on
 
 -- a command that has begun did nothing
-pub nothing_taken : (c : Setting) (w : World) (done : List SpaceAction) (sent : List DeviceAction) → actions_of 0 w.space ≡ done → w.device ≡ sent → HasTaken c w done sent [] []
-nothing_taken c w done sent made same = record { emptying = []; taken = refl; made = made ∙ sym (append-nil done); nothing_sent = same }
+pub nothing_taken : (c : Setting) (y w : World) (done : List SpaceAction) (sent : List DeviceAction) → actions_of 0 w.space ≡ done → w.device ≡ sent → HasTaken c y w done sent [] []
+nothing_taken c y w done sent made same = record { emptying = []; taken = refl; made = made ∙ sym (append-nil done); nothing_sent = same }
 
-module _ (c : Setting) (w x : World) (done : List SpaceAction) (sent : List DeviceAction) where
+module _ (c : Setting) (y w x : World) (done : List SpaceAction) (sent : List DeviceAction) where
   -- behind all that the driver did, it did this
-  behind : (before since more : List SpaceAction) → actions_of 0 w.space ≡ done ++ (before ++ since) → actions_of 0 x.space ≡ actions_of 0 w.space ++ more → actions_of 0 x.space ≡ done ++ (before ++ (since ++ more))
+  pub behind : (before since more : List SpaceAction) → actions_of 0 w.space ≡ done ++ (before ++ since) → actions_of 0 x.space ≡ actions_of 0 w.space ++ more → actions_of 0 x.space ≡ done ++ (before ++ (since ++ more))
   behind before since more were made =
       made
       ∙ (ap (λ (l : List SpaceAction). l ++ more) were
       ∙ (append_assoc done (before ++ since) more ∙ ap (λ (l : List SpaceAction). done ++ l) (append_assoc before since more)))
 
-  -- the driver did more
-  pub taken_more : (blocks : List ℕ) (since more : List SpaceAction) → HasTaken c w done sent blocks since → actions_of 0 x.space ≡ actions_of 0 w.space ++ more → x.device ≡ w.device → HasTaken c x done sent blocks (since ++ more)
-  taken_more blocks since more p made same =
-      record { emptying = p.emptying; taken = p.taken; made = behind p.emptying since more p.made made; nothing_sent = same ∙ p.nothing_sent }
-
   -- it did nothing more
-  pub taken_still : (blocks : List ℕ) (since : List SpaceAction) → HasTaken c w done sent blocks since → actions_of 0 x.space ≡ actions_of 0 w.space → x.device ≡ w.device → HasTaken c x done sent blocks since
+  pub taken_still : (blocks : List ℕ) (since : List SpaceAction) → HasTaken c y w done sent blocks since → actions_of 0 x.space ≡ actions_of 0 w.space → x.device ≡ w.device → HasTaken c y x done sent blocks since
   taken_still blocks since p made same =
       record { emptying = p.emptying; taken = p.taken; made = made ∙ p.made; nothing_sent = same ∙ p.nothing_sent }
 
   -- the block that was emptied is taken away
-  pub taken_one_more : (blocks : List ℕ) (since : List SpaceAction) (b : ℕ) (p : HasTaken c w done sent blocks since) → by_tale c.sizes (done ++ p.emptying) (block_no b) None since
-      → actions_of 0 x.space ≡ actions_of 0 w.space ++ space.Offline (block_no b) ∷ [] → x.device ≡ w.device → HasTaken c x done sent (blocks ++ b ∷ []) []
+  pub taken_one_more : (blocks : List ℕ) (since : List SpaceAction) (b : ℕ) (p : HasTaken c y w done sent blocks since) → truth c y (done ++ p.emptying) (block_no b) None since
+      → actions_of 0 x.space ≡ actions_of 0 w.space ++ space.Offline (block_no b) ∷ [] → x.device ≡ w.device → HasTaken c y x done sent (blocks ++ b ∷ []) []
   taken_one_more blocks since b p emptied made same =
       let away : List SpaceAction = space.Offline (block_no b) ∷ [] in
       record {
         emptying = p.emptying ++ (since ++ away);
-        taken = taken_push (by_tale c.sizes) done blocks p.emptying b since p.taken emptied;
+        taken = taken_push (truth c y) done blocks p.emptying b since p.taken emptied;
         made = behind p.emptying since away p.made made ∙ sym (ap (λ (l : List SpaceAction). done ++ l) (append-nil (p.emptying ++ (since ++ away))));
         nothing_sent = same ∙ p.nothing_sent;
       }
 
   -- a block is put online
-  pub put_one_more : (h : HostState) (result : HostResult) (b : ℕ) → slice_get h.blocks h.waiting ≡ Some b → IsPutting c w done sent h result → actions_of 0 x.space ≡ actions_of 0 w.space ++ space.Online (block_no b) ∷ [] → x.device ≡ w.device
-      → IsPutting c x done sent (record h { waiting = h.waiting + 1 }) result
+  pub put_one_more : (h : HostState) (result : HostResult) (b : ℕ) → slice_get h.blocks h.waiting ≡ Some b → IsPutting c y w done sent h result → actions_of 0 x.space ≡ actions_of 0 w.space ++ space.Online (block_no b) ∷ [] → x.device ≡ w.device
+      → IsPutting c y x done sent (record h { waiting = h.waiting + 1 }) result
   put_one_more h result b at p made same =
       let more : List SpaceAction = space.Online (block_no b) ∷ [] in
       let pushed : put_online p.put ++ more ≡ put_online (p.put ++ b ∷ []) = sym (map_push (λ (k : ℕ). space.Online (block_no k)) p.put b) in
@@ -183,13 +164,13 @@ module _ (c : Setting) (w x : World) (done : List SpaceAction) (sent : List Devi
         mine = p.mine;
         made = behind p.before (put_online p.put) more p.made made ∙ ap (λ (l : List SpaceAction). done ++ (p.before ++ l)) pushed;
         sent_now = same ∙ p.sent_now;
-        whole = subst (λ (l : List ℕ). IsDoneFor c h.left done sent result h.tried (p.before ++ put_online l) p.mine) all p.whole;
+        whole = subst (λ (l : List ℕ). IsDoneFor c y h.left done sent result h.tried (p.before ++ put_online l) p.mine) all p.whole;
       }
 
 -- It has its result: it will have done all of it once the blocks that the driver holds are put online.
-pub begins_to_put : (c : Setting) (w : World) (done : List SpaceAction) (sent : List DeviceAction) (h : HostState) (result : HostResult) (before : List SpaceAction) (mine : List DeviceAction) → actions_of 0 w.space ≡ done ++ before → w.device ≡ sent ++ mine
-    → IsDoneFor c h.left done sent result h.tried (before ++ put_online (away h)) mine → IsPutting c w done sent h result
-begins_to_put c w done sent h result before mine made same whole = record {
+pub begins_to_put : (c : Setting) (y w : World) (done : List SpaceAction) (sent : List DeviceAction) (h : HostState) (result : HostResult) (before : List SpaceAction) (mine : List DeviceAction) → actions_of 0 w.space ≡ done ++ before → w.device ≡ sent ++ mine
+    → IsDoneFor c y h.left done sent result h.tried (before ++ put_online (away h)) mine → IsPutting c y w done sent h result
+begins_to_put c y w done sent h result before mine made same whole = record {
   before = before;
   put = [];
   mine = mine;
@@ -204,17 +185,17 @@ begins_to_put c w done sent h result before mine made same whole = record {
 abbrev pub AreUntold : List DeviceAction → Type 0
 AreUntold device = AllByRecursion (λ (a : DeviceAction). a.notices ≡ []) device
 
-abbrev pub DidAll : Setting → List HostRun → List SpaceAction → List DeviceAction → Type 0
-DidAll c runs done sent = AreDoneBy (by_tale c.sizes) [] c.sizes (device_at_start c.sizes) runs done sent
+abbrev pub DidAll : Setting → World → List HostRun → List SpaceAction → List DeviceAction → Type 0
+DidAll c y runs done sent = AreDoneBy (truth c y) [] c.sizes (device_at_start c.sizes) runs done sent
 
-module _ (c : Setting) (w : World) (runs : List HostRun) (done : List SpaceAction) (sent : List DeviceAction) (h : HostState) (ended : DidAll c runs done sent) (numbers : numbers_of runs ≡ range_with_len 0 h.number) (untold : AreUntold w.device) (made : actions_of 0 w.space ≡ done) (same : w.device ≡ sent) where
-  begun_with : (blocks : List ℕ) → HostDid c w runs (with_blocks h blocks) nothing_tried
+module _ (c : Setting) (y w : World) (runs : List HostRun) (done : List SpaceAction) (sent : List DeviceAction) (h : HostState) (ended : DidAll c y runs done sent) (numbers : numbers_of runs ≡ range_with_len 0 h.number) (untold : AreUntold w.device) (made : actions_of 0 w.space ≡ done) (same : w.device ≡ sent) where
+  begun_with : (blocks : List ℕ) → HostDid c y w runs (with_blocks h blocks) nothing_tried
   begun_with [] = record {
     done = done;
     sent = sent;
     ended = ended;
     numbers = numbers;
-    doing = (nothing_taken c w done sent made same, refl);
+    doing = (nothing_taken c y w done sent made same, refl);
     no_notices = untold;
   }
   begun_with (b ∷ blocks) =
@@ -225,14 +206,14 @@ module _ (c : Setting) (w : World) (runs : List HostRun) (done : List SpaceActio
         ended = ended;
         numbers = numbers;
         doing = (
-          subst (λ (l : List ℕ). HasTaken c w done sent (reverse l) []) (sym none) (nothing_taken c w done sent made same),
+          subst (λ (l : List ℕ). HasTaken c y w done sent (reverse l) []) (sym none) (nothing_taken c y w done sent made same),
           ap (λ (l : List ℕ). emptied_lines (reverse l)) (sym none),
         );
         no_notices = untold;
       }
 
   -- all commands before it have ended
-  pub begun_did : (plugged : List ℕ) → HostDid c w runs (command_begun plugged h) nothing_tried
+  pub begun_did : (plugged : List ℕ) → HostDid c y w runs (command_begun plugged h) nothing_tried
   begun_did plugged = begun_with (command_blocks h.sizes plugged h.left)
 
 -- ---- the end of a command
@@ -242,26 +223,26 @@ no_run [] = refl
 no_run (command ∷ left) = refl
 
 -- no command ended
-pub no_line : (c : Setting) (w : World) (runs : List HostRun) (left : List HostCommand) (h : HostState) (t : Tale) → HostDid c w runs h t → HostDid c w (runs ++ run_list left None) h t
-no_line c w runs left h t did =
-    subst (λ (l : List HostRun). HostDid c w l h t) (sym (ap (λ (l : List HostRun). runs ++ l) (no_run left) ∙ append-nil runs)) did
+pub no_line : (c : Setting) (y w : World) (runs : List HostRun) (left : List HostCommand) (h : HostState) (t : Tale) → HostDid c y w runs h t → HostDid c y w (runs ++ run_list left None) h t
+no_line c y w runs left h t did =
+    subst (λ (l : List HostRun). HostDid c y w l h t) (sym (ap (λ (l : List HostRun). runs ++ l) (no_run left) ∙ append-nil runs)) did
 
-module _ (c : Setting) (w : World) (runs : List HostRun) (done : List SpaceAction) (sent : List DeviceAction) (plugged : List ℕ) (h : HostState) (result : HostResult) (ended : DidAll c runs done sent) (numbers : numbers_of runs ≡ range_with_len 0 h.number) (untold : AreUntold w.device) where
-  ended_by : (left : List HostCommand) (actions : List SpaceAction) (mine : List DeviceAction) → actions_of 0 w.space ≡ done ++ actions → w.device ≡ sent ++ mine → IsDoneFor c left done sent result h.tried actions mine
-      → HostDid c w (runs ++ run_list left (Some (line_of h result))) (command_begun plugged (record h { left = drop 1 left; number = suc h.number })) nothing_tried
+module _ (c : Setting) (y w : World) (runs : List HostRun) (done : List SpaceAction) (sent : List DeviceAction) (plugged : List ℕ) (h : HostState) (result : HostResult) (ended : DidAll c y runs done sent) (numbers : numbers_of runs ≡ range_with_len 0 h.number) (untold : AreUntold w.device) where
+  ended_by : (left : List HostCommand) (actions : List SpaceAction) (mine : List DeviceAction) → actions_of 0 w.space ≡ done ++ actions → w.device ≡ sent ++ mine → IsDoneFor c y left done sent result h.tried actions mine
+      → HostDid c y w (runs ++ run_list left (Some (line_of h result))) (command_begun plugged (record h { left = drop 1 left; number = suc h.number })) nothing_tried
   ended_by [] actions mine made same whole = absurd whole
   ended_by (command ∷ left) actions mine made same whole =
       let run : HostRun = record { command = command; line = line_of h result } in
-      begun_did c w (runs ++ run ∷ []) (done ++ actions) (sent ++ mine) (record h { left = left; number = suc h.number })
-      (done_push (by_tale c.sizes) [] c.sizes (device_at_start c.sizes) runs run done actions sent mine ended whole)
+      begun_did c y w (runs ++ run ∷ []) (done ++ actions) (sent ++ mine) (record h { left = left; number = suc h.number })
+      (done_push (truth c y) [] c.sizes (device_at_start c.sizes) runs run done actions sent mine ended whole)
       (numbers_more runs run h.number numbers refl) untold made same plugged
 
-  by_blocks : (blocks : List ℕ) → away h ≡ blocks → IsPutting c w done sent h result → HostDid c w (runs ++ run_list h.left (ends_without blocks plugged h result).line) (ends_without blocks plugged h result).state nothing_tried
+  by_blocks : (blocks : List ℕ) → away h ≡ blocks → IsPutting c y w done sent h result → HostDid c y w (runs ++ run_list h.left (ends_without blocks plugged h result).line) (ends_without blocks plugged h result).state nothing_tried
   by_blocks [] none p =
       let all : p.put ++ away h ≡ p.put = ap (λ (l : List ℕ). p.put ++ l) none ∙ append-nil p.put in
       ended_by h.left (p.before ++ put_online p.put) p.mine p.made p.sent_now
-      (subst (λ (l : List ℕ). IsDoneFor c h.left done sent result h.tried (p.before ++ put_online l) p.mine) all p.whole)
-  by_blocks (b ∷ blocks) some p = no_line c w runs h.left (record h { place = places.PuttingOnline result }) nothing_tried (record {
+      (subst (λ (l : List ℕ). IsDoneFor c y h.left done sent result h.tried (p.before ++ put_online l) p.mine) all p.whole)
+  by_blocks (b ∷ blocks) some p = no_line c y w runs h.left (record h { place = places.PuttingOnline result }) nothing_tried (record {
     done = done;
     sent = sent;
     ended = ended;
@@ -271,5 +252,5 @@ module _ (c : Setting) (w : World) (runs : List HostRun) (done : List SpaceActio
   })
 
   -- once the command under way has its result, its blocks are put online, or it ends
-  pub result_did : IsPutting c w done sent h result → HostDid c w (runs ++ run_list h.left (with_result plugged h result).line) (with_result plugged h result).state nothing_tried
+  pub result_did : IsPutting c y w done sent h result → HostDid c y w (runs ++ run_list h.left (with_result plugged h result).line) (with_result plugged h result).state nothing_tried
   result_did p = by_blocks (away h) refl p

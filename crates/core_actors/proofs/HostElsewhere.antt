@@ -1,5 +1,5 @@
 -- What an owner's action leaves of the host: all that holds of it between its actions.
-use Rattle.std.proofs.Common.{◌≡◌, ◌≢◌, ⊎_elim, inl, inr, ℕ, zero, suc, Bool, true, ◌||◌, ◌&&◌, ◌==◌, List, [], ◌∷◌, get_or, set, refl, sym, ap, ◌∙◌, subst, arith, Option, Some, None}
+use Rattle.std.proofs.Common.{◌≡◌, ◌≢◌, ⊎_elim, inl, inr, ℕ, Bool, true, ◌||◌, ◌&&◌, ◌==◌, List, [], refl, sym, ap, ◌∙◌, subst, arith, Option, Some, None}
 use Rattle.std.specs.Prelude.{IsSome}
 use Rattle.std.proofs.lemmas.Bool.{false≢true, or_right, eq-eqb}
 use Rattle.std.proofs.lemmas.Option.{none-some}
@@ -35,20 +35,25 @@ use Rattle.machine.specs.Consistent.{IsSetting, IsConsistent}
 use Rattle.machine.specs.Made.{lease_made, return_made, made}
 use Rattle.machine.specs.MayMake.{MayLease, MayReturn, MayAskForBlock, MayMake}
 use Rattle.machine.specs.World.{Setting, World, IsOwnerSeat, HasFrame, space_now, device_at, is_held}
+use Rattle.space.proofs.SpacesBehind.{still_out}
 use Rattle.machine.proofs.CellsKept.{cells_kept}
-use Rattle.machine.proofs.Elsewhere.{driver_stays, held_stays}
+use Rattle.machine.proofs.Elsewhere.{owner_not_driver, driver_stays, held_stays}
 use Rattle.machine.proofs.LeasesKept.{lease_out, lease_offline}
 use Rattle.machine.proofs.Quiet.{actor_there}
 use Rattle.machine.proofs.ReturnsKept.{return_out, return_offline}
 use Rattle.machine.proofs.SpaceNow.{lease_is_free}
 use Rattle.core_actors.specs.declared.host_place.HostPlace.{HostPlace}
 use Rattle.core_actors.specs.declared.host_place.HostPlace.TheVariants as places
-use Rattle.core_actors.specs.HostDid.{taken_away, HasTaken, evacuation_did, IsPutting, IsDoingAt, HostDid}
+use Rattle.core_actors.specs.HostDid.{taken_away, HasTaken, IsPutting, IsDoingAt, HostDid}
+use Rattle.core_actors.specs.HostFound.{IsTruePlace, HostFound, evacuation_did}
 use Rattle.core_actors.specs.HostKept.{HostKept}
 use Rattle.core_actors.specs.HostSeat.{ForPage, for_page, HasForPage, IsOfHeldBlock, IsViewAt, IsDriver, HostSeat}
 use Rattle.core_actors.specs.HostSpace.{has_isolated, is_emptying, is_isolated_by, AreOutByTale, IsSpaceAt, AreCommandBlocks, IsEmptying, IsZeroing, IsPlacedAt, HostSpace}
 use Rattle.core_actors.specs.Hosts.{HostState, command_blocks}
-use Rattle.core_actors.proofs.HostDoesLists.{other_push, AreUntold, taken_still}
+use Rattle.evac_model.proofs.Pushes.{other_push}
+use Rattle.core_actors.proofs.HostDoesLists.{AreUntold, taken_still}
+use Rattle.core_actors.proofs.HostGrows.{owner_adds, told_still, move_still}
+use Rattle.core_actors.proofs.HostTruths.{Adds, did_true_of}
 
 -- ---- what the frame space is left
 
@@ -73,9 +78,6 @@ nothing_left c w x same =
       driver = λ frame has out. ap (λ (st : SpaceState). out_for st frame) now;
     }
 
-not_zero : (c : Setting) (seat : ℕ) → IsOwnerSeat c seat → seat ≢ 0
-not_zero c seat owner = let low = owner.0 in omega arith
-
 -- ---- a lease
 
 lease_isolates : (st : SpaceState) (l : Option Leased) (page : ℕ) (kind : Kind) → (after_lease st l page kind).isolated ≡ st.isolated
@@ -90,7 +92,7 @@ lease_left c seat w page kind (Some l) set kept owner may e =
     let a : SpaceAction = space.Lease seat (record { 0 = l.frame }) page kind in
     let free = lease_is_free c w set kept seat kind l e in
     record {
-      own = other_push 0 w.space a (not_zero c seat owner);
+      own = other_push 0 w.space a (owner_not_driver c seat owner);
       isolated = ap (λ (st : SpaceState). st.isolated) (space_after-append c.sizes c.online c.space w.space a) ∙ lease_isolates (space_now c w) (lease_of c.sizes c.online (space_now c w) seat kind) page.0 kind;
       offline = lease_offline c seat w page kind l set kept may e;
       out = λ frame o on is.
@@ -100,21 +102,13 @@ lease_left c seat w page kind (Some l) set kept owner may e =
 
 -- ---- a return
 
--- what is out with one frame less was out before
-still_out : (out : List (Option Out)) (gone frame : ℕ) (o : Out) → get_or (set out gone None) frame None ≡ Some o → get_or out frame None ≡ Some o
-still_out [] gone frame o is = is
-still_out (y ∷ out) zero zero o is = absurd (none-some o is)
-still_out (y ∷ out) zero (suc frame) o is = is
-still_out (y ∷ out) (suc gone) zero o is = is
-still_out (y ∷ out) (suc gone) (suc frame) o is = still_out out gone frame o is
-
 -- the frame is in no hand but its giver's
 not_drivers : (c : Setting) (seat : ℕ) (w : World) (frame : ℕ) → IsConsistent c w → IsOwnerSeat c seat → HasFrame w seat frame → ¬ HasFrame w 0 frame
 not_drivers c seat w frame kept owner has mine =
     let k = kept.sound in
     let theirs = ap (λ (b : Bool). bit_of b) has in
     let here = ap (λ (b : Bool). bit_of b) mine in
-    one_owner c.opening w.snapshot.words w.snapshot.views k.shaped k.turn k.frames seat 0 (view_of w.snapshot.views seat) (view_of w.snapshot.views 0) frame (not_zero c seat owner)
+    one_owner c.opening w.snapshot.words w.snapshot.views k.shaped k.turn k.frames seat 0 (view_of w.snapshot.views seat) (view_of w.snapshot.views 0) frame (owner_not_driver c seat owner)
     (seat_has w.snapshot.views seat (actor_there c w seat kept owner.1)) (seat_has w.snapshot.views 0 (actor_there c w 0 kept (omega arith)))
     (inl (omega arith)) (inl (omega arith))
 
@@ -123,7 +117,7 @@ return_left c seat w given set kept owner may =
     let a : SpaceAction = space.Return seat given in
     let now = space_after-append c.sizes c.online c.space w.space a in
     record {
-      own = other_push 0 w.space a (not_zero c seat owner);
+      own = other_push 0 w.space a (owner_not_driver c seat owner);
       isolated = ap (λ (st : SpaceState). st.isolated) now;
       offline = return_offline c seat w given set kept may;
       out = λ frame o on is. still_out (space_now c w).out given.0 frame o (ap (λ (st : SpaceState). out_for st frame) (sym now) ∙ is);
@@ -133,11 +127,11 @@ return_left c seat w given set kept owner may =
 -- ---- any action
 
 not_of_blocks : (c : Setting) (seat : ℕ) (w : World) (call : BlockCall) → MayAskForBlock c seat w call → ¬ IsOwnerSeat c seat
-not_of_blocks c seat w (Isolate block) may owner = not_zero c seat owner may.driver
-not_of_blocks c seat w (Target block after) may owner = not_zero c seat owner may.driver
-not_of_blocks c seat w (Undo block) may owner = not_zero c seat owner may.driver
-not_of_blocks c seat w (Offline block) may owner = not_zero c seat owner may.driver
-not_of_blocks c seat w (Online block) may owner = not_zero c seat owner may.driver
+not_of_blocks c seat w (Isolate block) may owner = owner_not_driver c seat owner may.driver
+not_of_blocks c seat w (Target block after) may owner = owner_not_driver c seat owner may.driver
+not_of_blocks c seat w (Undo block) may owner = owner_not_driver c seat owner may.driver
+not_of_blocks c seat w (Offline block) may owner = owner_not_driver c seat owner may.driver
+not_of_blocks c seat w (Online block) may owner = owner_not_driver c seat owner may.driver
 
 -- the frame space and the device behind an owner's action
 action_left : (c : Setting) (seat : ℕ) (w : World) (action : Action) → IsSetting c → IsConsistent c w → IsOwnerSeat c seat → MayMake c seat w action → SpaceLeft c w (made c seat w action).world × ((made c seat w action).world.device ≡ w.device)
@@ -151,7 +145,7 @@ action_left c seat w (actions.Space (Lease page kind)) set kept owner may =
     lease_device (Some l) = refl
 action_left c seat w (actions.Space (Return frame)) set kept owner may = (return_left c seat w frame set kept owner may, refl)
 action_left c seat w (actions.Block call) set kept owner may = absurd (not_of_blocks c seat w call may owner)
-action_left c seat w (actions.Device (Request bytes)) set kept owner may = absurd (not_zero c seat owner may.driver)
+action_left c seat w (actions.Device (Request bytes)) set kept owner may = absurd (owner_not_driver c seat owner may.driver)
 action_left c seat w (actions.Device Config) set kept owner may = (nothing_left c w w refl, refl)
 action_left c seat w actions.Ended set kept owner may = (nothing_left c w w refl, refl)
 
@@ -265,13 +259,28 @@ module _ (c : Setting) (w x : World) (l : Left c w x) where
             let b : ℕ = h.evacuation.block.0 in
             s.isolated b ∙ or_right (is_in b (space_now c w).offline) (is_isolated_by h b) (its_own (is_emptying h.place) (has_isolated h.evacuation.stage) b emptying isolated)
 
-    -- ---- what the host did
+    -- ---- what the evacuation was told
 
-    module _ (done : List SpaceAction) (sent : List DeviceAction) where
-      taken_left : (blocks : List ℕ) (since : List SpaceAction) → HasTaken c w done sent blocks since → HasTaken c x done sent blocks since
-      taken_left blocks since p = taken_still c w x done sent blocks since p l.space.own l.device
+    module _ (adds : Adds c w x) where
+      told_left : (place : HostPlace) → IsTruePlace c w h t place → IsTruePlace c x h t place
+      told_left places.Asking is = tt
+      told_left places.Evacuating is = told_still c w x adds h.evacuation t l.space.own is
+      told_left (places.Moving lease at) is = (told_still c w x adds h.evacuation t l.space.own is.0, move_still c w x adds t lease at is.1)
+      told_left places.TakingAway is = tt
+      told_left (places.Zeroing frame cell) is = tt
+      told_left (places.MarkingZeros frame) is = tt
+      told_left (places.PuttingOnline result) is = tt
 
-      putting_left : (result : HostResult) → IsPutting c w done sent h result → IsPutting c x done sent h result
+      found_left : HostFound c w h t → HostFound c x h t
+      found_left found = record { place = told_left h.place found.place }
+
+    -- ---- what the host did, as any world has it
+
+    module _ (y : World) (done : List SpaceAction) (sent : List DeviceAction) where
+      taken_left : (blocks : List ℕ) (since : List SpaceAction) → HasTaken c y w done sent blocks since → HasTaken c y x done sent blocks since
+      taken_left blocks since p = taken_still c y w x done sent blocks since p l.space.own l.device
+
+      putting_left : (result : HostResult) → IsPutting c y w done sent h result → IsPutting c y x done sent h result
       putting_left result p = record {
         before = p.before;
         put = p.put;
@@ -281,22 +290,22 @@ module _ (c : Setting) (w x : World) (l : Left c w x) where
         whole = p.whole;
       }
 
-      doing_left : (place : HostPlace) → IsDoingAt c w done sent h t place → IsDoingAt c x done sent h t place
+      doing_left : (place : HostPlace) → IsDoingAt c y w done sent h t place → IsDoingAt c y x done sent h t place
       doing_left places.Asking d = (taken_left (taken_away h) [] d.0, d.1)
-      doing_left places.Evacuating d = (taken_left (taken_away h) (evacuation_did h t) d.0, d.1)
-      doing_left (places.Moving lease at) d = (taken_left (taken_away h) (evacuation_did h t) d.0, d.1)
-      doing_left places.TakingAway d = (taken_left (taken_away h) (evacuation_did h t) d.0, d.1)
+      doing_left places.Evacuating d = (taken_left (taken_away h) (evacuation_did h.evacuation t) d.0, d.1)
+      doing_left (places.Moving lease at) d = (taken_left (taken_away h) (evacuation_did h.evacuation t) d.0, d.1)
+      doing_left places.TakingAway d = (taken_left (taken_away h) (evacuation_did h.evacuation t) d.0, d.1)
       doing_left (places.Zeroing frame cell) d = (taken_left (taken_away h) [] d.0, d.1)
       doing_left (places.MarkingZeros frame) d = (taken_left (taken_away h) [] d.0, d.1)
       doing_left (places.PuttingOnline result) d = putting_left result d
 
-    did_left : (runs : List HostRun) → HostDid c w runs h t → HostDid c x runs h t
-    did_left runs did = record {
+    did_left : (y : World) (runs : List HostRun) → HostDid c y w runs h t → HostDid c y x runs h t
+    did_left y runs did = record {
       done = did.done;
       sent = did.sent;
       ended = did.ended;
       numbers = did.numbers;
-      doing = doing_left did.done did.sent h.place did.doing;
+      doing = doing_left y did.done did.sent h.place did.doing;
       no_notices = subst AreUntold (sym l.device) did.no_notices;
     }
 
@@ -305,11 +314,13 @@ host_stays c w runs h seat action set kept owner may host =
     let x : World = (made c seat w action).world in
     let left = action_left c seat w action set kept owner may in
     let l : Left c w x = record { view = driver_stays c seat w action set kept may owner; held = held_stays c seat w action set kept may owner; device = left.1; space = left.0 } in
+    let adds : Adds c w x = owner_adds c seat w action set kept owner may in
     record {
       tale = host.tale;
       pages = host.pages;
       cells = cells_kept c seat w action set kept may host.cells;
       seat = seat_still c w x l h host.seat;
       space = space_left c w x l h host.tale host.space;
-      did = did_left c w x l h host.tale runs host.did;
+      found = found_left c w x l h host.tale adds host.found;
+      did = did_true_of c w x x runs h host.tale adds (did_left c w x l h host.tale w runs host.did);
     }

@@ -21,7 +21,6 @@ use Rattle.core_state.specs.Views.{view_of}
 use Rattle.evacuate.specs.Evacuating.{Evacuating}
 use Rattle.evacuate.specs.Tale.{Tale}
 use Rattle.host_work.specs.Commands.{AreDoneBy}
-use Rattle.host_work.specs.Evacuated.{by_tale}
 use Rattle.host_work.specs.Requests.{AreTakenAway}
 use Rattle.machine.specs.World.{Setting, World, HasFrame, device_now, is_held}
 use Rattle.core_actors.specs.declared.host_place.HostPlace.{HostPlace}
@@ -32,6 +31,7 @@ use Rattle.core_actors.specs.Hosts.{HostState, away, has_none, host_ended, comma
 use Rattle.core_actors.specs.HostSeat.{for_page_in, IsThatFrame, IsHeldToMove, IsCopying, Rests, IsMovingAt, IsViewAt, HostSeat}
 use Rattle.core_actors.specs.HostSpace.{IsPlacedAt}
 use Rattle.core_actors.specs.HostDid.{taken_away, IsDoingAt}
+use Rattle.core_actors.specs.HostFound.{truth}
 use Rattle.core_actors.specs.HostKept.{HostKept}
 
 -- ---- no command is under way
@@ -46,7 +46,7 @@ module _ (c : Setting) (w : World) (s : Sizes) (number : ℕ) (e : Evacuating) (
   host_at left place = record { sizes = s; left = left; number = number; place = place; evacuation = e; blocks = blocks; waiting = waiting; tried = tried }
 
   at_asking : (t : Tale) (done : List SpaceAction) (sent : List DeviceAction) (left : List HostCommand) (place : HostPlace)
-      → IsPlacedAt c w (host_at left place) t place → IsDoingAt c w done sent (host_at left place) t place → has_none left ≡ true → (left ≡ []) × (place ≡ places.Asking)
+      → IsPlacedAt c w (host_at left place) t place → IsDoingAt c w w done sent (host_at left place) t place → has_none left ≡ true → (left ≡ []) × (place ≡ places.Asking)
   at_asking t done sent (x ∷ xs) place p d ended = absurd (false≢true ended)
   at_asking t done sent [] places.Asking p d ended = (refl, refl)
   at_asking t done sent [] places.Evacuating p d ended = absurd (no_item blocks _ _ p.0.blocks p.0.block)
@@ -83,17 +83,17 @@ module _ (c : Setting) (w : World) (runs : List HostRun) (h : HostState) (k : Ho
 
   -- ---- what its commands did
 
-  took_none : (done : List SpaceAction) (blocks : List ℕ) (emptying : List SpaceAction) → blocks ≡ [] → AreTakenAway (by_tale c.sizes) done blocks emptying → emptying ≡ []
+  took_none : (done : List SpaceAction) (blocks : List ℕ) (emptying : List SpaceAction) → blocks ≡ [] → AreTakenAway (truth c w) done blocks emptying → emptying ≡ []
   took_none done [] emptying none taken = taken
   took_none done (b ∷ bs) emptying none taken = absurd (cc)
 
-  pub ended_did : AreDoneBy (by_tale c.sizes) [] c.sizes (device_at_start c.sizes) runs (actions_of 0 w.space) w.device
+  pub ended_did : AreDoneBy (truth c w) [] c.sizes (device_at_start c.sizes) runs (actions_of 0 w.space) w.device
   ended_did =
-      let d = (subst (λ (x : HostPlace). IsDoingAt c w k.did.done k.did.sent h k.tale x) ended_asking.1 k.did.doing).0 in
+      let d = (subst (λ (x : HostPlace). IsDoingAt c w w k.did.done k.did.sent h k.tale x) ended_asking.1 k.did.doing).0 in
       let none : d.emptying ≡ [] = took_none k.did.done (taken_away h) d.emptying (ap (λ (l : List ℕ). reverse l) none_away) d.taken in
       let made : actions_of 0 w.space ≡ k.did.done = d.made ∙ (ap (λ (l : List SpaceAction). k.did.done ++ (l ++ [])) none ∙ append-nil k.did.done) in
-      subst (λ (l : List DeviceAction). AreDoneBy (by_tale c.sizes) [] c.sizes (device_at_start c.sizes) runs (actions_of 0 w.space) l) (sym d.nothing_sent)
-      (subst (λ (l : List SpaceAction). AreDoneBy (by_tale c.sizes) [] c.sizes (device_at_start c.sizes) runs l k.did.sent) (sym made) k.did.ended)
+      subst (λ (l : List DeviceAction). AreDoneBy (truth c w) [] c.sizes (device_at_start c.sizes) runs (actions_of 0 w.space) l) (sym d.nothing_sent)
+      (subst (λ (l : List SpaceAction). AreDoneBy (truth c w) [] c.sizes (device_at_start c.sizes) runs l k.did.sent) (sym made) k.did.ended)
 
 -- ---- the driver draws no ticket
 

@@ -12,9 +12,14 @@ use Rattle.core_actors.specs.Hosts.{HostState, host_ended, host_action}
 use Rattle.core_actors.specs.HostHears.{host_after, line_after}
 use Rattle.core_actors.specs.HostSeat.{HostSeat}
 use Rattle.core_actors.specs.HostSpace.{tale_heard, HostSpace}
+use Rattle.core_actors.specs.HostFound.{HostFound}
 use Rattle.core_actors.specs.HostDid.{run_list, HostDid}
 use Rattle.core_actors.specs.HostKept.{HostKept}
 use Rattle.core_actors.proofs.HostMay.{host_may_make}
+use Rattle.core_actors.proofs.HostGrows.{driver_adds}
+use Rattle.core_actors.proofs.HostFinds.{found_after}
+use Rattle.core_actors.proofs.HostEvacuatesTrue.{told_evacuating}
+use Rattle.core_actors.proofs.HostTruths.{did_true_of}
 use Rattle.core_actors.proofs.HostPlaces.{IsRoundPlace, IsBlockPlace}
 use Rattle.core_actors.proofs.HostSteps.{IsStepPlace, seat_after_step}
 use Rattle.core_actors.proofs.HostHands.{IsHandPlace, seat_after_hand}
@@ -62,10 +67,17 @@ module _ (c : Setting) (w : World) (runs : List HostRun) (h : HostState) (set : 
       (λ at. space_after_round c w h k.tale set kept k.seat k.space going at may)
       (λ at. space_after_block c w h k.tale set kept k.seat k.space going at may)
 
-  did_on : HostDid c x.world (runs ++ run_list h.left (line_after plugged h x.heard)) (host_after plugged h x.heard) (tale_heard h k.tale x.heard)
+  found_on : HostFound c x.world (host_after plugged h x.heard) (tale_heard h k.tale x.heard)
+  found_on = found_after c w h k.tale set kept k.seat k.space k.found going may
+
+  -- what was done is true of the world behind the action
+  did_then : HostDid c x.world w runs h k.tale
+  did_then = did_true_of c w x.world w runs h k.tale (driver_adds c w (host_action h) set kept k.seat.driver may) k.did
+
+  did_on : HostDid c x.world x.world (runs ++ run_list h.left (line_after plugged h x.heard)) (host_after plugged h x.heard) (tale_heard h k.tale x.heard)
   did_on = round_or_block h.place
-      (λ at. did_after_round c w h k.tale runs set kept k.seat k.space k.did going at may)
-      (λ at. did_after_block c w h k.tale runs set kept k.seat k.space k.did going at may)
+      (λ at. did_after_round c w h k.tale runs set kept k.seat k.space did_then going at may (λ evacuating. told_evacuating c w h k.tale set kept k.seat k.space k.found going may evacuating))
+      (λ at. did_after_block c x.world w h k.tale runs set kept k.seat k.space did_then going at may)
 
   pub hosts_go_on : HostKept c x.world (runs ++ run_list h.left (line_after plugged h x.heard)) (host_after plugged h x.heard)
   hosts_go_on = record {
@@ -74,5 +86,6 @@ module _ (c : Setting) (w : World) (runs : List HostRun) (h : HostState) (set : 
     cells = cells_kept c 0 w (host_action h) set kept may k.cells;
     seat = seat_on;
     space = space_on;
+    found = found_on;
     did = did_on;
   }

@@ -26,6 +26,7 @@ use Rattle.core_actors.specs.HostSpace.{IsShort}
 use Rattle.core_actors.specs.HostKept.{HostKept}
 use Rattle.core_actors.proofs.HostBegins.{begins}
 use Rattle.core_actors.proofs.HostDoesLists.{begun_did}
+use Rattle.core_actors.proofs.HostFinds.{found_at_start}
 
 -- before its first command
 abbrev before_commands : Sizes → List HostCommand → HostState
@@ -73,7 +74,8 @@ module _ (s : Sizes) (online : Kind) (start : List StartPage) (budgets fails : L
         seat = seat_with (length blocks) (record (before_commands s commands) { blocks = blocks; waiting = length blocks });
         space = begins c w (before_commands s commands) refl short (opened_set s online start budgets fails r) (opened_consistent s online start budgets fails r)
             (opened_none s online start budgets fails) (λ block. refl);
-        did = begun_did c w [] [] [] (before_commands s commands) (refl, refl) refl tt refl refl (device_at_start s).plugged;
+        found = found_at_start c w s (device_at_start s).plugged commands;
+        did = begun_did c w w [] [] [] (before_commands s commands) (refl, refl) refl tt refl refl (device_at_start s).plugged;
       }
 
 pub host_kept_at_start : (s : Sizes) (online : Kind) (start : List StartPage) (budgets fails : List ℕ) (commands : List HostCommand) → MayStart s online start budgets → AllByRecursion IsShort commands → HostKept (setting_at_start s online start budgets fails) (world_at_start s start budgets) [] (host_at_start s (device_at_start s).plugged commands)

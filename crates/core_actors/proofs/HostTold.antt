@@ -28,10 +28,10 @@ module _ (plugged : List ℕ) (h : HostState) (lease : MoveLease) (found : Optio
   abbrev st : Evacuating
   st = h.evacuation
 
-  fits : is_answer st (came_of found) ≡ true
+  pub fits : is_answer st (came_of found) ≡ true
   fits = ap (λ (s : Stage). answers st.sizes st.block s (came_of found)) stage ∙ answer_fits st lease found stays
 
-  returning : evacuation_after st (came_of found) ≡ record st { stage = stages.Returning (record { lease = lease; found = found }) }
+  pub returning : evacuation_after st (came_of found) ≡ record st { stage = stages.Returning (record { lease = lease; found = found }) }
   returning =
       ap (λ (b : Bool). if b then after_answer st st.stage (came_of found) else st) fits
       ∙ (ap (λ (s : Stage). after_answer st s (came_of found)) stage ∙ came_back st lease found)

@@ -46,6 +46,13 @@ pub mod HostLeases
 pub mod HostRests
 pub mod HostHands
 pub mod HostStarts
+pub mod HostTruths
+pub mod HostRoundsTrue
+pub mod HostMakes
+pub mod HostAnswersTrue
+pub mod HostGrows
+pub mod HostEvacuatesTrue
+pub mod HostFinds
 pub mod HostElsewhere
 pub mod HostCounts
 pub mod HostEnds

@@ -11,6 +11,7 @@ pub mod Hosts
 pub mod HostHears
 pub mod HostSeat
 pub mod HostSpace
+pub mod HostFound
 pub mod HostDid
 pub mod HostKept
 pub mod HostCounts

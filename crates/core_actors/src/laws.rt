@@ -32,7 +32,6 @@ ghost use Rattle.machine.specs.declared.action.Action.{Action};
 ghost use Rattle.machine.specs.declared.action.Heard.{Heard};
 ghost use Rattle.machine.specs.declared.action.SpaceCall.{SpaceCall};
 ghost use Rattle.host_work.specs.Commands.{AreDoneBy};
-ghost use Rattle.host_work.specs.Evacuated.{by_tale};
 ghost use Rattle.machine.specs.Consistent.{IsSetting, IsConsistent};
 ghost use Rattle.machine.specs.Made.{Made, made, heard_by};
 ghost use Rattle.machine.specs.MayMake.{MayMake};
@@ -50,6 +49,7 @@ ghost use Rattle.core_actors.specs.Hosts.{HostState, host_at_start, host_ended, 
 ghost use Rattle.core_actors.specs.HostHears.{host_after, line_after};
 ghost use Rattle.core_actors.specs.HostSpace.{IsShort};
 ghost use Rattle.core_actors.specs.HostDid.{run_list};
+ghost use Rattle.core_actors.specs.HostFound.{truth};
 ghost use Rattle.core_actors.specs.HostKept.{HostKept};
 ghost use Rattle.core_actors.specs.HostCounts.{command_most, host_actions_left};
 ghost use Rattle.core_actors.specs.Places.{frame_owed};
@@ -154,9 +154,10 @@ pub fn owners_leave_hosts_alone()
 {}
 
 /// A host that has ended did all that the lines of its commands say, to the frame space and to the device, and the driver has no
-/// frame in hand.
+/// frame in hand. The cause of a block that stayed is true of that frame space's whole journal, and of the words that the driver's
+/// takes found.
 pub fn ended_hosts_did_their_commands()
-    ensures did { (c : Setting) (w : World) (runs : List HostRun) (h : HostState) → HostKept c w runs h → host_ended h ≡ true → AreDoneBy (by_tale c.sizes) [] c.sizes (device_at_start c.sizes) runs (actions_of 0 w.space) w.device }
+    ensures did { (c : Setting) (w : World) (runs : List HostRun) (h : HostState) → HostKept c w runs h → host_ended h ≡ true → AreDoneBy (truth c w) [] c.sizes (device_at_start c.sizes) runs (actions_of 0 w.space) w.device }
     ensures hands { (c : Setting) (w : World) (runs : List HostRun) (h : HostState) (frame : ℕ) → HostKept c w runs h → host_ended h ≡ true → ¬ HasFrame w 0 frame }
 {}
 
