@@ -24,12 +24,13 @@ use Rattle.evac_model.specs.DeviceJournal.{calls_after_act, backing_refuses, tel
 use Rattle.evac_model.specs.Pairing.{actions_of}
 use Rattle.mem_codec.specs.ResponseBytes.{HasState}
 use Rattle.host_work.specs.Commands.{IsDoneBy, AreDoneBy}
-use Rattle.host_work.specs.Evacuated.{by_tale}
+use Rattle.host_work.specs.FoundWords.{IsWordOf}
 use Rattle.host_work.specs.Requests.{Evacuates}
+use Rattle.host_work.specs.Truth.{by_truth}
 use Rattle.host_work.proofs.Parts.{all_parts}
 use Rattle.report.specs.declared.report.Report.{Report}
 use Rattle.report.specs.ReportText.{HasResultState, HasActState, HaveStates}
-use Rattle.report.specs.ReportOf.{device_start, IsReportOf}
+use Rattle.report.specs.ReportOf.{plain_start, space_told, device_start, IsReportOf}
 
 zero_fits : HasState (Ack 0)
 zero_fits = omega arith
@@ -125,5 +126,6 @@ runs_have_states E before s d (x ∷ xs) actions device done all =
 
 pub have_states : (s : Scenario) (r : Report) → IsReportOf s r → HaveStates r
 have_states s r h =
-    let device = actions_have_states s.geometry (device_start s) (first_of_calls []) r.device_journal h.host.answered in
-    record { host = runs_have_states (by_tale s.geometry) [] s.geometry (device_start s) r.host (actions_of 0 r.space_journal) r.device_journal h.host.did device; device = device }
+    let device = actions_have_states s.geometry (device_start s) (first_of_calls s.fails) r.device_journal h.host.answered in
+    let host = runs_have_states (by_truth (space_told s r) (IsWordOf s.geometry (plain_start s) r.history)) [] s.geometry (device_start s) r.host (actions_of 0 r.space_journal) r.device_journal h.host.did device in
+    record { host = host; device = device }

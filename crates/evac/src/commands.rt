@@ -106,13 +106,15 @@ pub fn replay_main<S: Source, K: Sink>(
     source: &mut S,
     sink: &mut K,
 ) -> Finish
-    // The calls reported are one legal history of pages that never move, each script call once,
-    // in its caller's order, and the pages reported are the state after it; the frame space's
-    // journal goes with that history, the frames out at the end are those of the mapped pages, and
-    // none lies in a block that isn't plugged; each command of the host has what the device gives by
-    // the actions before, the device's journal is that of the commands, and the plugged blocks are
-    // what it leaves; it is the report of the run of the schedule; of the scenario that the source's
-    // bytes are a text of.
+    // The report is one of a scenario that the source's bytes are a text of, and that of its scheduled
+    // run. The calls reported are one legal history of pages that never move, each script call once, in
+    // its caller's order, and the pages reported are the state after it. The frame space's journal goes
+    // with that history, the frames out at the end are those of the mapped pages, and none of them, so
+    // no mapped page, lies in a block that isn't plugged. The host's commands did what their lines say:
+    // a request that unplugs empties its blocks first, and isn't sent where one can't be emptied, for a
+    // cause that is true of the frame space's journal and of the history. Each response is the device's
+    // answer by the actions before it, where the listed calls of its backing fail, and the plugged
+    // blocks are what its journal leaves.
     ensures theorem { IfSome result.report (λ report. (s : Scenario) × IsRunnable s × IsReportOf s report × IsReportOfRun s report
         × IfSome (S.left source.old) (λ bytes. IsAccepted bytes s)) }
     ensures reported { IsSome result.report ↔ ((result.status ≡ 0) ⊎ (result.status ≡ 5)) }

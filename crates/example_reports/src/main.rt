@@ -8,9 +8,10 @@ use std::process::ExitCode;
 use std::{fs, io};
 
 /// The examples: each is a file with the ending `scn`, and one with the ending `txt`.
-const NAMES: [&str; 10] = [
+const NAMES: [&str; 11] = [
     "allocs-and-frees",
     "drawn-turns",
+    "evacuation",
     "host-commands",
     "named-turns",
     "no-frame",

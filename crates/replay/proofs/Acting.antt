@@ -28,7 +28,7 @@ use Rattle.replay.proofs.Storable.{next_storable}
 
 -- the parts of a scenario's setting go together
 pub setting_fits : (s : Scenario) → IsRunnable s → IsSetting (setting s)
-setting_fits s r = subst IsSetting (setting_is s) (opened_set s.geometry (online_of s) s.start (budgets_of s.owners) [] (may_start s r))
+setting_fits s r = subst IsSetting (setting_is s) (opened_set s.geometry (online_of s) s.start (budgets_of s.owners) s.fails (may_start s r))
 
 -- ---- the seats
 

@@ -25,7 +25,7 @@ use Rattle.core_actors.specs.Owners.{OwnerState}
 use Rattle.replay.specs.CallsMade.{AreOwnersCallsMade}
 use Rattle.replay.specs.Runs.{setting}
 use Rattle.replay.proofs.CallsKept.{calls_other}
-use Rattle.replay.proofs.MadeLists.{other_push}
+use Rattle.evac_model.proofs.Pushes.{other_push}
 
 -- what others made is as it was
 pub record LeavesOthers (s : Scenario) (before after : List SpaceAction) (who : ℕ) : Type 0 where

@@ -23,7 +23,8 @@ use Rattle.core_actors.specs.Owners.{OwnerState}
 use Rattle.core_actors.specs.Places.{lease_seen, frame_owed}
 use Rattle.replay.specs.Runs.{setting}
 use Rattle.replay.specs.CallsMade.{made_under_way, owed, AreMadeSoFar, HadNoFrame, WasRefusedAt, IsRefusedSince, IsRefusedNow, AreOwnersCallsMade}
-use Rattle.replay.proofs.MadeLists.{made_push, own_push, other_push, first_push, behind_push_own, behind_push_other, ticket_below, earlier_push, later_push, all_earlier, none_later}
+use Rattle.evac_model.proofs.Pushes.{own_push, other_push}
+use Rattle.replay.proofs.MadeLists.{made_push, first_push, behind_push_own, behind_push_other, ticket_below, earlier_push, later_push, all_earlier, none_later}
 
 -- what was made and is owed is that of calls that ended and of the one under way
 abbrev pub Adds : (who : ℕ) → OwnerState → (ended actions : List SpaceAction) → Type 0

@@ -11,8 +11,8 @@ use Rattle.evac_model.specs.DeviceAnswer.{device_at_start}
 use Rattle.evac_model.specs.HostCommands.{host_runs}
 use Rattle.evac_model.specs.Pairing.{actions_of}
 use Rattle.host_work.specs.Commands.{AreDoneBy}
-use Rattle.host_work.specs.Evacuated.{by_tale}
 use Rattle.machine.specs.World.{HasFrame, is_held}
+use Rattle.core_actors.specs.HostFound.{truth}
 use Rattle.core_actors.specs.Hosts.{has_none, host_ended}
 use Rattle.core_actors.proofs.HostEnds.{ended_did, ended_hands, ended_blocks}
 use Rattle.replay.specs.HostKept.{IsHostKept}
@@ -49,8 +49,8 @@ module _ (s : Scenario) (m : Running) (k : IsHostKept s m) (ended : host_ended m
   pub all_numbers : map (λ x. x.line.no) (host_runs s.host m.lines) ≡ range_with_len 0 (length s.host)
   all_numbers = as_many (λ (x : HostRun). x.line.no) (λ (x : HostRun). x.command) runs m.host.number s.host k.kept.did.numbers all_commands
 
-  -- they did what their lines say
-  pub all_done : AreDoneBy (by_tale s.geometry) [] s.geometry (device_at_start s.geometry) (host_runs s.host m.lines) (actions_of 0 m.world.space) m.world.device
+  -- they did what their lines say, each cause true of the run at its end
+  pub all_done : AreDoneBy (truth (setting s) m.world) [] s.geometry (device_at_start s.geometry) (host_runs s.host m.lines) (actions_of 0 m.world.space) m.world.device
   all_done = ended_did (setting s) m.world runs m.host k.kept ended
 
   -- the driver holds no block, and has no frame in hand

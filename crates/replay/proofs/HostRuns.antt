@@ -8,7 +8,8 @@ use Rattle.evac_model.specs.declared.scenario.Actor.{Actor}
 use Rattle.evac_model.specs.declared.scenario.Scenario.{Scenario}
 use Rattle.evac_model.specs.DeviceAnswer.{device_at_start}
 use Rattle.evac_model.specs.HostCommands.{host_runs}
-use Rattle.evac_model.specs.Scenarios.{IsHostCommand, IsRunnable}
+use Rattle.evac_model.specs.ScenarioLines.{HasBytes}
+use Rattle.evac_model.specs.Scenarios.{IsRunnable}
 use Rattle.evac_model.specs.ScenarioGrammar.{online_of}
 use Rattle.evac_model.proofs.Lists.{all_weaker}
 use Rattle.machine.specs.Made.{Made, made}
@@ -76,8 +77,8 @@ host_kept s m actor r k = turn_cases (setting s) m (IsHostKept s) k.host
 
 -- ---- the start
 
-short_one : (c : HostCommand) → IsHostCommand c → IsShort c
-short_one (Request bytes) is = is.bytes.1
+short_one : (c : HostCommand) → HasBytes c → IsShort c
+short_one (Request bytes) is = is.1
 short_one Config is = tt
 
 pub host_kept_at_start : (s : Scenario) → IsRunnable s → IsHostKept s (running_at_start s)
@@ -88,6 +89,6 @@ host_kept_at_start s r =
       kept =
           subst (λ (runs : List HostRun). HostKept (setting s) (running_at_start s).world runs h) (sym (runs_none s.host))
           (subst (λ (c : Setting). HostKept c (running_at_start s).world [] h) (setting_is s)
-          (kept_at_start s.geometry (online_of s) s.start (budgets_of s.owners) [] s.host (may_start s r) (all_weaker IsHostCommand IsShort short_one s.host r.commands)));
+          (kept_at_start s.geometry (online_of s) s.start (budgets_of s.owners) s.fails s.host (may_start s r) (all_weaker HasBytes IsShort short_one s.host r.commands)));
       left = start_left s.geometry plugged s.host;
     }

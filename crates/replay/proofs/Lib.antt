@@ -33,6 +33,7 @@ pub mod Left
 pub mod Done
 pub mod Lengths
 pub mod Callers
+pub mod WordsTold
 pub mod Reported
 pub mod EndCalls
 pub mod EndHost

@@ -8,6 +8,7 @@ use Rattle.evac_model.specs.declared.entry.Entry.{Entry}
 use Rattle.evac_model.specs.declared.space.SpaceAction.{SpaceAction}
 use Rattle.evac_model.specs.Pairing.{caller_of, actions_of, IsMadeBy, AreMadeBy}
 use Rattle.evac_model.proofs.Lists.{all_at}
+use Rattle.evac_model.proofs.Pushes.{own_push, other_push}
 
 -- ---- what entries made
 
@@ -20,17 +21,6 @@ pub made_push : (es : List Entry) (e : Entry) (xs ys : List SpaceAction) → Are
 made_push es e xs ys h g = made_append es (e ∷ []) xs ys h (ys, [], sym (append-nil ys), g, refl)
 
 -- ---- whose actions
-
-pub own_push : (who : ℕ) (journal : List SpaceAction) (x : SpaceAction) → caller_of x ≡ who → actions_of who (journal ++ x ∷ []) ≡ actions_of who journal ++ x ∷ []
-own_push who journal x own =
-    filter-append (λ (a : SpaceAction). caller_of a == who) journal (x ∷ [])
-    ∙ ap (λ (b : Bool). actions_of who journal ++ cond b (x ∷ []) []) (eq-eqb (caller_of x) who own)
-
-pub other_push : (who : ℕ) (journal : List SpaceAction) (x : SpaceAction) → caller_of x ≢ who → actions_of who (journal ++ x ∷ []) ≡ actions_of who journal
-other_push who journal x other =
-    filter-append (λ (a : SpaceAction). caller_of a == who) journal (x ∷ [])
-    ∙ (ap (λ (b : Bool). actions_of who journal ++ cond b (x ∷ []) []) (ne_eqb (caller_of x) who other)
-    ∙ append-nil (actions_of who journal))
 
 -- the first actions of a journal stay, and those behind them get one more
 module _ (who at : ℕ) (journal : List SpaceAction) (x : SpaceAction) (in_journal : at ≤ length journal) where

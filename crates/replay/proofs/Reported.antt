@@ -25,7 +25,6 @@ use Rattle.evac_model.specs.SpaceJournal.{SpaceState, out_for, is_frame_in, spac
 use Rattle.evac_model.specs.State.{PlainState, page_at}
 use Rattle.evac_model.specs.History.{after_entries}
 use Rattle.evac_model.specs.Scripts.{script_of, numbered_call}
-use Rattle.evac_model.proofs.Tables.{get-table_map}
 use Rattle.evac_words.specs.Word.{mapped_bit, frame_of, pins_of}
 use Rattle.core_state.specs.declared.opening.Opening.{Opening}
 use Rattle.core_state.specs.declared.view.View.{View}
@@ -33,20 +32,23 @@ use Rattle.core_state.specs.Words.{entry_word_of, cells_of_frame, kind_in}
 use Rattle.core_state.specs.Pages.{entry_with, page_after, FreeShows}
 use Rattle.core_state.specs.CoreOpens.{start_pages}
 use Rattle.core_state.specs.Histories.{IsOpeningState}
-use Rattle.core_state.proofs.CoreRooms.{start_pages_plain}
 use Rattle.core_state.proofs.Starts.{length-start_pages}
 use Rattle.core_state.proofs.Entries.{page_after-quiet}
 use Rattle.core_state.proofs.Histories.{from_opening, histories_are_legal, words_show_the_history}
 use Rattle.host_work.specs.Commands.{AreDoneBy}
-use Rattle.host_work.specs.Evacuated.{by_tale}
+use Rattle.host_work.specs.FoundWords.{IsWordOf}
+use Rattle.host_work.specs.Requests.{Evacuates}
+use Rattle.host_work.specs.Truth.{Finds, by_truth}
+use Rattle.host_work.proofs.TruthGrows.{Follows, truth_found, are_done_by}
 use Rattle.report.specs.declared.report.Report.{Report}
 use Rattle.report.specs.FinalPages.{final_page, pages_below, pages_state}
 use Rattle.report.proofs.PageLaws.{numbers, pages_state-pages_below, rising-below}
 use Rattle.machine.specs.World.{space_now, device_at}
 use Rattle.machine.proofs.SpaceNow.{offline_not_out}
+use Rattle.core_actors.specs.HostFound.{space_run, DriverFound, truth}
 use Rattle.replay.specs.Running.{Running}
 use Rattle.replay.specs.Runs.{opening, setting, shown_page, shown_below, HaveEnded, IsReportAfter}
-use Rattle.report.specs.ReportOf.{plain_start, block_list, space_reported, device_start, device_reported, IsReportOf}
+use Rattle.report.specs.ReportOf.{plain_start, block_list, space_reported, space_told, device_start, device_reported, IsReportOf}
 use Rattle.replay.specs.Keeping.{IsKept}
 use Rattle.replay.proofs.Acting.{setting_fits}
 use Rattle.replay.proofs.Callers.{found_at, of_owner, of_scripts}
@@ -55,6 +57,7 @@ use Rattle.replay.proofs.EndHost.{all_commands, all_numbers, all_done}
 use Rattle.replay.proofs.EndedOwners.{let_go}
 use Rattle.replay.proofs.EndFrames.{frames_at_end, unplugged_at_end}
 use Rattle.replay.proofs.Members.{there, all_at, get_or_at, numbered_at}
+use Rattle.replay.proofs.WordsTold.{opens_with, is_word_of}
 
 -- ---- pages as the words show them
 
@@ -92,7 +95,7 @@ module _ (s : Scenario) (m : Running) (r : Report) (run : IsRunnable s) (k : IsK
   views = m.world.snapshot.views
 
   opens : IsOpeningState o (plain_start s)
-  opens page = ap (λ st. page_at st page) (sym (start_pages_plain s.geometry s.start run.start.each)) ∙ get-table_map (start_pages s.geometry s.start) page
+  opens = opens_with s run
 
   -- an entry is of a page of the machine
   in_range : (j : ℕ) (e : Entry) → slice_get r.history j ≡ Some e → e.page.0 < s.geometry.pages
@@ -153,15 +156,30 @@ module _ (s : Scenario) (m : Running) (r : Report) (run : IsRunnable s) (k : IsK
   command_numbers : map (λ x. x.line.no) r.host ≡ range_with_len 0 (length s.host)
   command_numbers = subst (λ (runs : List HostRun). map (λ x. x.line.no) runs ≡ range_with_len 0 (length s.host)) (sym rep.host) (all_numbers s m k.host ended.host)
 
-  did : AreDoneBy (by_tale s.geometry) [] s.geometry (device_start s) r.host (actions_of 0 r.space_journal) r.device_journal
-  did =
-      subst (λ (runs : List HostRun). AreDoneBy (by_tale s.geometry) [] s.geometry (device_start s) runs (actions_of 0 r.space_journal) r.device_journal) (sym rep.host)
-      (subst (λ (journal : List SpaceAction). AreDoneBy (by_tale s.geometry) [] s.geometry (device_start s) (host_runs s.host m.lines) (actions_of 0 journal) r.device_journal) (sym rep.space)
-      (subst (λ (journal : List DeviceAction). AreDoneBy (by_tale s.geometry) [] s.geometry (device_start s) (host_runs s.host m.lines) (actions_of 0 m.world.space) journal) (sym rep.device)
+  -- what an evacuation may have done: by the frame space and the words of the run, and by those reported
+  abbrev words_told : Finds
+  words_told = IsWordOf s.geometry (plain_start s) r.history
+
+  abbrev truth_told : Evacuates
+  truth_told = by_truth (space_told s r) words_told
+
+  follows : Follows (truth (setting s) m.world) truth_told
+  follows =
+      subst (λ (journal : List SpaceAction). Follows (truth (setting s) m.world) (by_truth (record { sizes = s.geometry; online = online_of s; start = space_at_start s.geometry s.start; journal = journal }) words_told)) (sym rep.space)
+      (truth_found (space_run (setting s) m.world) (DriverFound m.world) words_told (is_word_of s m r run k ended rep))
+
+  pub did_in_run : AreDoneBy (truth (setting s) m.world) [] s.geometry (device_start s) r.host (actions_of 0 r.space_journal) r.device_journal
+  did_in_run =
+      subst (λ (runs : List HostRun). AreDoneBy (truth (setting s) m.world) [] s.geometry (device_start s) runs (actions_of 0 r.space_journal) r.device_journal) (sym rep.host)
+      (subst (λ (journal : List SpaceAction). AreDoneBy (truth (setting s) m.world) [] s.geometry (device_start s) (host_runs s.host m.lines) (actions_of 0 journal) r.device_journal) (sym rep.space)
+      (subst (λ (journal : List DeviceAction). AreDoneBy (truth (setting s) m.world) [] s.geometry (device_start s) (host_runs s.host m.lines) (actions_of 0 m.world.space) journal) (sym rep.device)
       (all_done s m k.host ended.host)))
 
-  answered : AreAnswered s.geometry (device_start s) (first_of_calls []) r.device_journal
-  answered = subst (λ (journal : List DeviceAction). AreAnswered s.geometry (device_start s) (first_of_calls []) journal) (sym rep.device) k.world.answered
+  did : AreDoneBy truth_told [] s.geometry (device_start s) r.host (actions_of 0 r.space_journal) r.device_journal
+  did = are_done_by (truth (setting s) m.world) truth_told follows [] s.geometry (device_start s) r.host (actions_of 0 r.space_journal) r.device_journal did_in_run
+
+  answered : AreAnswered s.geometry (device_start s) (first_of_calls s.fails) r.device_journal
+  answered = subst (λ (journal : List DeviceAction). AreAnswered s.geometry (device_start s) (first_of_calls s.fails) journal) (sym rep.device) k.world.answered
 
   no_notices : AllByRecursion (λ a. a.notices ≡ []) r.device_journal
   no_notices = subst (λ (journal : List DeviceAction). AllByRecursion (λ a. a.notices ≡ []) journal) (sym rep.device) k.host.kept.did.no_notices

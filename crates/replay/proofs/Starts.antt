@@ -51,7 +51,7 @@ length-owners_from cells k (c ∷ cs) = ap suc (length-owners_from cells (k + 1)
 -- ---- what the machine is opened with
 
 -- the setting of the machine is that of the run
-pub setting_is : (s : Scenario) → setting_at_start s.geometry (online_of s) s.start (budgets_of s.owners) [] ≡ setting s
+pub setting_is : (s : Scenario) → setting_at_start s.geometry (online_of s) s.start (budgets_of s.owners) s.fails ≡ setting s
 setting_is s =
     ap (λ (n : ℕ). let c : Setting = record { opening = opening s; sizes = s.geometry; online = online_of s; space = (setting s).space; owners = n; backing = (setting s).backing } in c)
     (length-map s.owners (λ (script : List (PageNo × Call)). length script))
@@ -68,7 +68,7 @@ may_start s r = record {
 pub world_at_start_kept : (s : Scenario) → IsRunnable s → IsConsistent (setting s) (running_at_start s).world
 world_at_start_kept s r =
     subst (λ (c : Setting). IsConsistent c (running_at_start s).world) (setting_is s)
-    (opened_consistent s.geometry (online_of s) s.start (budgets_of s.owners) [] (may_start s r))
+    (opened_consistent s.geometry (online_of s) s.start (budgets_of s.owners) s.fails (may_start s r))
 
 -- ---- an owner and its seat
 

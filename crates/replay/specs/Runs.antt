@@ -6,6 +6,7 @@ use Rattle.evac_model.specs.declared.scenario.Scenario.{Scenario}
 use Rattle.evac_model.specs.Counts.{first_of_calls}
 use Rattle.evac_model.specs.DeviceAnswer.{device_at_start}
 use Rattle.evac_model.specs.HostCommands.{host_runs}
+use Rattle.evac_model.specs.Pairing.{actions_of}
 use Rattle.evac_model.specs.ScenarioGrammar.{online_of}
 use Rattle.evac_model.specs.SpaceJournal.{space_at_start}
 use Rattle.evac_model.specs.Page.{Page}
@@ -14,6 +15,8 @@ use Rattle.core_state.specs.declared.opening.Opening.{Opening}
 use Rattle.core_state.specs.Words.{entry_word_of, cells_of_frame, kind_in}
 use Rattle.core_state.specs.CoreOpens.{opening_of}
 use Rattle.core_state.specs.Histories.{IsHistoryOf}
+use Rattle.host_work.specs.Commands.{AreDoneBy}
+use Rattle.core_actors.specs.HostFound.{truth}
 use Rattle.core_actors.specs.Hosts.{host_at_start, host_ended}
 use Rattle.core_actors.specs.Owners.{OwnerState, owner_at_start, owner_ended}
 use Rattle.report.specs.declared.report.FinalPage.{FinalPage}
@@ -39,10 +42,10 @@ owners_from cells k (script ∷ scripts) = owner_at_start k cells script ∷ own
 abbrev pub opening : Scenario → Opening
 opening s = opening_of s.geometry s.start (budgets_of s.owners)
 
--- what a scenario's run begins with; no call of the device's backing fails yet
+-- what a scenario's run begins with
 abbrev pub setting : Scenario → Setting
 setting s =
-    record { opening = opening s; sizes = s.geometry; online = online_of s; space = space_at_start s.geometry s.start; owners = length s.owners; backing = first_of_calls [] }
+    record { opening = opening s; sizes = s.geometry; online = online_of s; space = space_at_start s.geometry s.start; owners = length s.owners; backing = first_of_calls s.fails }
 
 abbrev pub running_at_start : Scenario → Running
 running_at_start s = record {
@@ -90,8 +93,10 @@ pub record IsReportAfter (s : Scenario) (m : Running) (r : Report) : Type 0 wher
   pub plugged : r.plugged ≡ block_list (device_at s.geometry m.world.device).plugged
   pub pages : r.pages ≡ shown_below (opening s) m.world.snapshot.words s.geometry.pages
 
--- the report is that of the scheduled run
+-- The report is that of the scheduled run. The cause of each evacuation that failed is true of the run: the words that it names are
+-- ones that the driver's takes found.
 pub record IsReportOfRun (s : Scenario) (r : Report) : Type 0 where
   pub running : Running
   pub run : IsScheduledRun s running
   pub report : IsReportAfter s running r
+  pub did : AreDoneBy (truth (setting s) running.world) [] s.geometry (device_at_start s.geometry) r.host (actions_of 0 r.space_journal) r.device_journal

@@ -48,8 +48,8 @@ pub fn bounds_count_turns()
 
 /// What a machine leaves whose actors have ended is a legal history of pages that never move, each script
 /// call once, and the state after it; its space journal is that of the history and of the host's commands, each of these has
-/// its line, and they did what these say to the frame space and to the device; the frames out at the end are those of the mapped
-/// pages, and the plugged blocks what the device's journal leaves.
+/// its line, and they did what these say to the frame space and to the device, each cause true of that journal and that history; the
+/// frames out at the end are those of the mapped pages, and the plugged blocks what the device's journal leaves.
 pub fn reports_tell_legal_histories()
     ensures { (s : Scenario) (m : Running) (r : Report) → IsRunnable s → IsKept s m → HaveEnded m → IsReportAfter s m r → IsReportOf s r }
 {}

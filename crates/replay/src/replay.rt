@@ -105,6 +105,13 @@ fn turns_of(alloc: Global, turns: &[Turn]) -> Result<TurnList, AllocError>
     Ok(Listed::from_vec(Vec::from_slice(alloc, turns)?))
 }
 
+/// A copy of numbers.
+fn numbers_of(alloc: Global, numbers: &[u64]) -> Result<NumberList, AllocError>
+    ensures { IfOk result (λ copy. copy ≡ numbers.now) }
+{
+    Ok(Listed::from_vec(Vec::from_slice(alloc, numbers)?))
+}
+
 /// A copy of commands.
 fn commands_of(alloc: Global, commands: &[HostCommand]) -> Result<CommandList, AllocError>
     ensures { IfOk result (λ copy. copy ≡ commands.now) }
@@ -184,13 +191,14 @@ fn report_of(alloc: Global, commands: &[HostCommand], run: Running) -> Result<Re
     put_together(notes, entries, host, journals)
 }
 
-/// The machine of a scenario at its start. No call of the backing fails yet.
+/// The machine of a scenario at its start, whose device has a backing that fails at the listed calls.
 fn machine_of(alloc: Global, s: &Scenario) -> Result<Machine, OutOfMemory>
     requires { IsRunnable s.now }
     ensures setting { IfOk result (λ m. m.setting ≡ setting s.now) }
     ensures world { IfOk result (λ m. m.world ≡ (running_at_start s.now).world) }
 {
     let budgets = budgets(alloc, s.owners.as_slice())?;
+    let fails = numbers_of(alloc, s.fails.as_slice())?;
     let online = s.online.unwrap_or(Kind::Movable);
     Ok(Machine::open(
         alloc,
@@ -198,7 +206,7 @@ fn machine_of(alloc: Global, s: &Scenario) -> Result<Machine, OutOfMemory>
         online,
         s.start.as_slice(),
         budgets.as_slice(),
-        NumberList::from_vec(Vec::new(alloc)),
+        fails,
     )?)
 }
 
@@ -245,6 +253,7 @@ fn scenario_of(alloc: Global, s: &Scenario) -> Result<Scenario, AllocError>
         geometry: s.geometry,
         online: s.online,
         start: Listed::from_vec(Vec::from_slice(alloc, s.start.as_slice())?),
+        fails: numbers_of(alloc, s.fails.as_slice())?,
         named: turns_of(alloc, s.named.as_slice())?,
         drawn: s.drawn,
         owners: scripts_of(alloc, s.owners.as_slice())?,
@@ -253,9 +262,10 @@ fn scenario_of(alloc: Global, s: &Scenario) -> Result<Scenario, AllocError>
 }
 
 /// The replay of one scenario: its turns, and the machine at the start. Each turn makes one step of one
-/// actor: the next action of an owner's call, on a word or on the frame space; or what the host asks
-/// of the memory device or of the frame space. The turns are the named ones, those that the generator draws, and
-/// then rounds over all actors until all have ended.
+/// actor: the next action of an owner's call, on a word or on the frame space; or that of a command of the
+/// host, on the memory device, on the frame space, or on a word, where it moves a page or zeroes a frame.
+/// The turns are the named ones, those that the generator draws, and then rounds over all actors until all
+/// have ended.
 #[derive(Drop)]
 pub struct Replay {
     geometry: Geometry,

@@ -14,7 +14,8 @@ use Rattle.evac_model.specs.Scripts.{IsOfScripts}
 use Rattle.evac_model.specs.SpaceJournal.{SpaceState, out_for, is_frame_in, space_after, space_at_start}
 use Rattle.evac_model.specs.State.{PlainState, start_state}
 use Rattle.host_work.specs.Commands.{AreDoneBy}
-use Rattle.host_work.specs.Evacuated.{by_tale}
+use Rattle.host_work.specs.FoundWords.{IsWordOf}
+use Rattle.host_work.specs.Truth.{SpaceRun, by_truth}
 use Rattle.report.specs.declared.report.Report.{Report}
 use Rattle.report.specs.FinalPages.{pages_state}
 
@@ -31,6 +32,10 @@ plain_start s = start_state s.geometry.cells s.start
 -- the frame space behind the actions reported
 abbrev pub space_reported : Scenario → Report → SpaceState
 space_reported s r = space_after s.geometry (online_of s) (space_at_start s.geometry s.start) r.space_journal
+
+-- the frame space at the start, with all actions reported
+abbrev pub space_told : Scenario → Report → SpaceRun
+space_told s r = record { sizes = s.geometry; online = online_of s; start = space_at_start s.geometry s.start; journal = r.space_journal }
 
 -- the memory device at the start, and behind the actions reported
 abbrev pub device_start : Scenario → DeviceState
@@ -59,14 +64,15 @@ pub record AreFramesTold (s : Scenario) (r : Report) : Type 0 where
   pub no_unplugged : (frame : ℕ) → is_frame_in s.geometry (space_reported s r).offline frame ≡ true → out_for (space_reported s r) frame ≡ None
 
 -- The host's commands are reported in their order, numbered from 0, each with what it gave and the blocks that it tried. One
--- after another they did all that the driver did to the frame space, and all that the device did. Each response is the device's
--- answer by the actions before it, where no call of the backing fails, and no listener was told of any. The plugged blocks are
--- those that the device's actions leave.
+-- after another they did all that the driver did to the frame space, and all that the device did. Each cause of an evacuation
+-- that failed is true of the frame space's journal and of the history reported. Each response is the device's answer by the
+-- actions before it, where the listed calls of the backing fail, and no listener was told of any. The plugged blocks are those
+-- that the device's actions leave.
 pub record AreHostAndDeviceTold (s : Scenario) (r : Report) : Type 0 where
   pub commands : map (λ x. x.command) r.host ≡ s.host
   pub numbers : map (λ x. x.line.no) r.host ≡ range_with_len 0 (length s.host)
-  pub did : AreDoneBy (by_tale s.geometry) [] s.geometry (device_start s) r.host (actions_of 0 r.space_journal) r.device_journal
-  pub answered : AreAnswered s.geometry (device_start s) (first_of_calls []) r.device_journal
+  pub did : AreDoneBy (by_truth (space_told s r) (IsWordOf s.geometry (plain_start s) r.history)) [] s.geometry (device_start s) r.host (actions_of 0 r.space_journal) r.device_journal
+  pub answered : AreAnswered s.geometry (device_start s) (first_of_calls s.fails) r.device_journal
   pub no_notices : AllByRecursion (λ a. a.notices ≡ []) r.device_journal
   pub plugged : r.plugged ≡ block_list (device_reported s r).plugged
 

@@ -15,7 +15,7 @@ fn what_isnt_built_yet_is_later(rt: HostRuntime) -> Result<(), Fail> {
     small_replays(
         &rt,
         rt.alloc(),
-        b"page 0 movable 0\nfail 1\n",
+        b"page 0 movable 0\nhost resize 64\n",
         3,
         b"scenario: line 3: later\n",
     )?;
@@ -23,13 +23,6 @@ fn what_isnt_built_yet_is_later(rt: HostRuntime) -> Result<(), Fail> {
         &rt,
         rt.alloc(),
         b"host migrate 1\n",
-        3,
-        b"scenario: line 2: later\n",
-    )?;
-    small_replays(
-        &rt,
-        rt.alloc(),
-        b"host request 010000000000000080000000000000000100000000000000\n",
         3,
         b"scenario: line 2: later\n",
     )

@@ -8,6 +8,8 @@ pub use scenarios::scenario_of;
 #[cfg(test)]
 mod arguments;
 #[cfg(test)]
+mod evacuations;
+#[cfg(test)]
 mod faults;
 #[cfg(test)]
 mod plain;

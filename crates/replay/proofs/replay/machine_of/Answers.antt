@@ -17,7 +17,7 @@ module _ (s : Scenario) (online : Kind) (start : List StartPage) (budgets : List
   may_open : IsRunnable s → MayStart s.geometry online start budgets
   may_open r = rw (os, ss, bs) (may_start s r)
 
-  setting_with : (fails : List ℕ) → fails ≡ [] → setting_at_start s.geometry online start budgets fails ≡ setting s
+  setting_with : (fails : List ℕ) → fails ≡ s.fails → setting_at_start s.geometry online start budgets fails ≡ setting s
   setting_with fails fs = rw (os, ss, bs, fs) (setting_is s)
 
   world_with : world_at_start s.geometry start budgets ≡ (running_at_start s).world
@@ -25,18 +25,18 @@ module _ (s : Scenario) (online : Kind) (start : List StartPage) (budgets : List
 
 pub open-requires : goal.open-requires
 open-requires c =
-    let lengths = c.as_slice-3.ensures.value ∙ (c.in_ok-budgets.ensures ∙ ap (λ (scripts : List (List (PageNo × Call))). budgets_of scripts) c.as_slice.ensures) in
-    may_open c.args.s.now c.unwrap_or-online.result c.as_slice-2.result.now c.as_slice-3.result.now c.unwrap_or-online.ensures c.as_slice-2.ensures lengths c.requires
+    let lengths = c.as_slice-4.ensures.value ∙ (c.in_ok-budgets.ensures ∙ ap (λ (scripts : List (List (PageNo × Call))). budgets_of scripts) c.as_slice.ensures) in
+    may_open c.args.s.now c.unwrap_or-online.result c.as_slice-3.result.now c.as_slice-4.result.now c.unwrap_or-online.ensures c.as_slice-3.ensures lengths c.requires
 
 pub returns-clause-setting : goal.returns-clause-setting
 returns-clause-setting c =
-    let lengths = c.as_slice-3.ensures.value ∙ (c.in_ok-budgets.ensures ∙ ap (λ (scripts : List (List (PageNo × Call))). budgets_of scripts) c.as_slice.ensures) in
+    let lengths = c.as_slice-4.ensures.value ∙ (c.in_ok-budgets.ensures ∙ ap (λ (scripts : List (List (PageNo × Call))). budgets_of scripts) c.as_slice.ensures) in
     ap (λ (m : MachineState). m.setting) c.in_ok-open.ensures
-    ∙ setting_with c.args.s.now c.unwrap_or-online.result c.as_slice-2.result.now c.as_slice-3.result.now c.unwrap_or-online.ensures c.as_slice-2.ensures lengths
-    c.from_vec.result (c.from_vec.ensures ∙ c.new.ensures.items)
+    ∙ setting_with c.args.s.now c.unwrap_or-online.result c.as_slice-3.result.now c.as_slice-4.result.now c.unwrap_or-online.ensures c.as_slice-3.ensures lengths
+    c.in_ok-fails.value (c.in_ok-fails.ensures ∙ c.as_slice-2.ensures)
 
 pub returns-clause-world : goal.returns-clause-world
 returns-clause-world c =
-    let lengths = c.as_slice-3.ensures.value ∙ (c.in_ok-budgets.ensures ∙ ap (λ (scripts : List (List (PageNo × Call))). budgets_of scripts) c.as_slice.ensures) in
+    let lengths = c.as_slice-4.ensures.value ∙ (c.in_ok-budgets.ensures ∙ ap (λ (scripts : List (List (PageNo × Call))). budgets_of scripts) c.as_slice.ensures) in
     ap (λ (m : MachineState). m.world) c.in_ok-open.ensures
-    ∙ world_with c.args.s.now c.unwrap_or-online.result c.as_slice-2.result.now c.as_slice-3.result.now c.unwrap_or-online.ensures c.as_slice-2.ensures lengths
+    ∙ world_with c.args.s.now c.unwrap_or-online.result c.as_slice-3.result.now c.as_slice-4.result.now c.unwrap_or-online.ensures c.as_slice-3.ensures lengths
