@@ -33,7 +33,7 @@ returns-clause-setting c =
     let lengths = c.as_slice-4.ensures.value ∙ (c.in_ok-budgets.ensures ∙ ap (λ (scripts : List (List (PageNo × Call))). budgets_of scripts) c.as_slice.ensures) in
     ap (λ (m : MachineState). m.setting) c.in_ok-open.ensures
     ∙ setting_with c.args.s.now c.unwrap_or-online.result c.as_slice-3.result.now c.as_slice-4.result.now c.unwrap_or-online.ensures c.as_slice-3.ensures lengths
-    c.in_ok-fails.value (c.in_ok-fails.ensures ∙ c.as_slice-2.ensures)
+    c.in_ok-fails.fails (c.in_ok-fails.ensures ∙ c.as_slice-2.ensures)
 
 pub returns-clause-world : goal.returns-clause-world
 returns-clause-world c =
