@@ -174,7 +174,7 @@ module _ (c : Setting) (x : World) (e : Evacuating) (t : Tale) (done emptying : 
   pub true_cause : (why : EvacCause) → e.stage ≡ Failed why → IsCauseTrue (space_run c x) (DriverFound x) (done ++ emptying) e.block (evacuation_did e t) why
   true_cause why failed =
       subst (λ (l : List SpaceAction). IsCauseTrue (space_run c x) (DriverFound x) l e.block (evacuation_did e t) why) met_behind
-      (subst (λ (s : Stage). IsTrueAt c x e t told_true.before s) failed told_true.stage)
+      (subst (λ (s : Stage). IsTrueAt (space_run c x) (DriverFound x) told_true.before e.block (evacuation_did e t) t.rounds told_true.rounds.0 s) failed told_true.stage)
 
 -- ---- a command under way
 

@@ -53,6 +53,7 @@ use Rattle.core_actors.specs.Hosts.{HostState, command_blocks}
 use Rattle.evac_model.proofs.Pushes.{other_push}
 use Rattle.core_actors.proofs.HostDoesLists.{AreUntold, taken_still}
 use Rattle.core_actors.proofs.HostGrows.{owner_adds, told_still, move_still}
+use Rattle.core_actors.proofs.HostHasTakes.{takes_elsewhere}
 use Rattle.core_actors.proofs.HostTruths.{Adds, did_true_of}
 
 -- ---- what the frame space is left
@@ -264,8 +265,8 @@ module _ (c : Setting) (w x : World) (l : Left c w x) where
     module _ (adds : Adds c w x) where
       told_left : (place : HostPlace) → IsTruePlace c w h t place → IsTruePlace c x h t place
       told_left places.Asking is = tt
-      told_left places.Evacuating is = told_still c w x adds h.evacuation t l.space.own is
-      told_left (places.Moving lease at) is = (told_still c w x adds h.evacuation t l.space.own is.0, move_still c w x adds t lease at is.1)
+      told_left places.Evacuating is = told_still c w x adds l.space.own h.evacuation t is
+      told_left (places.Moving lease at) is = (told_still c w x adds l.space.own h.evacuation t is.0, move_still c w x adds l.space.own t lease at is.1)
       told_left places.TakingAway is = tt
       told_left (places.Zeroing frame cell) is = tt
       told_left (places.MarkingZeros frame) is = tt
@@ -322,5 +323,6 @@ host_stays c w runs h seat action set kept owner may host =
       seat = seat_still c w x l h host.seat;
       space = space_left c w x l h host.tale host.space;
       found = found_left c w x l h host.tale adds host.found;
+      takes = takes_elsewhere w x h (ap (λ (v : View). v.noticed.by_right) l.view) l.space.own host.takes;
       did = did_true_of c w x x runs h host.tale adds (did_left c w x l h host.tale w runs host.did);
     }

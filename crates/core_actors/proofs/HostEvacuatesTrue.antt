@@ -99,7 +99,7 @@ module _ (c : Setting) (w : World) (set : IsSetting c) (kept : IsConsistent c w)
       → IsTrueAnswer c w (target_made c w next l).world e t (Leasing after) (seen_in (evac.Lease e.block after) (target_made c w next l).heard)
   target_true after None l out may is chosen = tt
   target_true after (Some at) None out may is chosen = (refl, may.isolated, next_movable after at out is, none_free chosen)
-  target_true after (Some at) (Some l) out may is chosen = (may.isolated, next_movable after at out is)
+  target_true after (Some at) (Some l) out may is chosen = (may.isolated, next_movable after at out is, refl)
 
   true_at : (stage : Stage) → IsWaiting stage → IsSpaceAt st e t stage → MayMake c 0 w (evac_action (action_at e.block stage))
       → IsTrueAnswer c w (made c 0 w (evac_action (action_at e.block stage))).world e t stage (seen_in (action_at e.block stage) (made c 0 w (evac_action (action_at e.block stage))).heard)

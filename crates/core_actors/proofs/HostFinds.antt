@@ -1,5 +1,5 @@
 -- What an evacuation was told stays true behind the host's next action, and what it is told then is true.
-use Rattle.std.proofs.Common.{◌≡◌, ℕ, zero, suc, ◌+◌, ◌≤◌, ◌==◌, nat_lt, not, if◌then◌else◌, Bool, true, false, true≢false, List, [], ◌∷◌, ◌++◌, length, drop, append-nil, refl, sym, ◌∙◌, subst, Option, None, Some}
+use Rattle.std.proofs.Common.{◌≡◌, ℕ, zero, suc, ◌+◌, ◌≤◌, ◌==◌, nat_lt, not, if◌then◌else◌, Bool, true, false, true≢false, List, [], ◌∷◌, ◌++◌, length, drop, append-nil, refl, sym, ◌∙◌, subst, arith, Option, None, Some}
 use Rattle.std.proofs.lemmas.Bool.{or_left}
 use Rattle.evac_model.specs.declared.evacuation.MoveLease.{MoveLease}
 use Rattle.evac_model.specs.declared.host.HostCommand.{HostCommand}
@@ -20,6 +20,7 @@ use Rattle.evacuate.specs.Found.{is_busy, is_pinned, maps}
 use Rattle.evacuate.specs.Tale.{Tale, nothing_tried}
 use Rattle.evacuate.specs.UnderWay.{GoesBy, tale_after}
 use Rattle.host_work.specs.Requests.{block_no, emptied_lines, failed_line}
+use Rattle.host_work.specs.Truth.{targets_in}
 use Rattle.machine.specs.Consistent.{IsSetting, IsConsistent}
 use Rattle.machine.specs.Made.{Made, made}
 use Rattle.machine.specs.MayMake.{MayMake}
@@ -28,7 +29,7 @@ use Rattle.core_actors.specs.declared.host_place.HostPlace.{HostPlace}
 use Rattle.core_actors.specs.declared.host_place.HostPlace.TheVariants as places
 use Rattle.core_actors.specs.declared.host_place.MovePlace.{MovePlace}
 use Rattle.core_actors.specs.declared.host_place.MovePlace.TheVariants.{Taking, Beginning, Loading, Storing, Marking, Remapping, Releasing}
-use Rattle.core_actors.specs.HostFound.{DriverFound, evacuation_did, IsFoundBehind, HasToldTrue, IsTrueMove, HostFound}
+use Rattle.core_actors.specs.HostFound.{space_run, takes_of, DriverFound, evacuation_did, HasToldTrue, IsFoundLast, IsTrueMove, HostFound, HasTakes}
 use Rattle.core_actors.specs.HostHears.{seen_in, goes_on_at, told, moves_on, stays, came_of, moved, ends_without, with_result, answered, result_in, host_after}
 use Rattle.core_actors.specs.HostSeat.{IsDriver, HostSeat}
 use Rattle.core_actors.specs.HostSpace.{StaysAt, HostSpace, tale_by, tale_told, tale_moved, tale_heard}
@@ -48,7 +49,7 @@ module _ (c : Setting) (x : World) where
   -- the next block of a command is tried, or the device is asked
   begun_found : (waiting : ℕ) (h : HostState) → HostFound c x (with_next_block waiting h) nothing_tried
   begun_found zero h = record { place = tt }
-  begun_found (suc n) h = record { place = record { before = actions_of 0 x.space; did = sym (append-nil (actions_of 0 x.space)); rounds = (tt, tt); stage = tt } }
+  begun_found (suc n) h = record { place = record { before = actions_of 0 x.space; did = sym (append-nil (actions_of 0 x.space)); rounds = (length x.space, omega arith, tt, tt); stage = tt } }
 
   -- a command begins
   command_found : (plugged : List ℕ) (h : HostState) → HostFound c x (command_begun plugged h) nothing_tried
@@ -113,7 +114,7 @@ module _ (c : Setting) (w : World) (h : HostState) (e : Evacuating) (t : Tale) (
   module _ (x : World) (adds : Adds c w x) (same : actions_of 0 x.space ≡ actions_of 0 w.space) (at : MovePlace) (holds : HasToldTrue c w moving t) where
     -- the next step of the move
     steps_on : (next : MovePlace) → IsTrueMove x t lease next → HostFound c x (moves_on (host at) lease next).state t
-    steps_on next is = record { place = (told_still c w x adds moving t same holds, is) }
+    steps_on next is = record { place = (told_still c w x adds same moving t holds, is) }
 
     -- behind the copy of a cell
     cell_copied : (more : Bool) (cell : ℕ) → HostFound c x (moves_on (host at) lease (if more then Loading (cell + 1) else Marking)).state t
@@ -131,15 +132,15 @@ module _ (c : Setting) (w : World) (h : HostState) (e : Evacuating) (t : Tale) (
           told_found c x plugged (host at) t (seen.Found word) (told_true c w x moving t (seen.Found word) sizes goes (answer_fits moving lease (Some word) fits) tt holds adds no_more is)
 
       -- the page was taken
-      page_found : (word : ℕ) (taken : Bool) → (taken_bit word == 1) ≡ taken → IsFoundBehind x t.rounds lease.page word
+      page_found : (word : ℕ) (taken : Bool) → (taken_bit word == 1) ≡ taken → IsFoundLast x t.rounds lease.page word
           → HostFound c x
           (if taken then told plugged (host at) (seen.Found word) else moves_on (host at) lease (if stays word lease.from.0 then Releasing (Some word) else Beginning)).state
           (if taken then tale_told (host at) t (seen.Found word) else t)
-      page_found word true is behind = move_told (Some word) (or_left (is_busy word lease.from.0) (is_pinned word lease.from.0) (or_left (taken_bit word == 1) (not (maps word lease.from.0)) is)) behind
-      page_found word false is behind = page_stays (stays word lease.from.0)
+      page_found word true is last = move_told (Some word) (or_left (is_busy word lease.from.0) (is_pinned word lease.from.0) (or_left (taken_bit word == 1) (not (maps word lease.from.0)) is)) last
+      page_found word false is last = page_stays (stays word lease.from.0)
         where
           page_stays : (stay : Bool) → HostFound c x (moves_on (host at) lease (if stay then Releasing (Some word) else Beginning)).state t
-          page_stays true = steps_on (Releasing (Some word)) behind
+          page_stays true = steps_on (Releasing (Some word)) last
           page_stays false = steps_on Beginning tt
 
   module _ (set : IsSetting c) (kept : IsConsistent c w) (driver : IsDriver c.opening (driver_of w)) where
@@ -152,6 +153,7 @@ module _ (c : Setting) (w : World) (h : HostState) (e : Evacuating) (t : Tale) (
       goes : GoesBy (standing e stage) t
       holds : HasToldTrue c w (standing e stage) t
       step : IsTrueMove w t lease at
+      takes : HasTakes w (host at)
       stays_at : StaysAt lease at
       may : MayMake c 0 w (move_action lease at)
 
@@ -167,9 +169,19 @@ module _ (c : Setting) (w : World) (h : HostState) (e : Evacuating) (t : Tale) (
     move_at Taking b =
         let x : World = (behind Taking).world in
         let word : ℕ = word_found c.opening w.snapshot.words (driver_of w) (steps.Take lease.page) in
-        let found : DriverFound x lease.page word × ((old : ℕ) → DriverFound w lease.page old → bound_of old ≤ bound_of word) = take_found c w lease.page set kept driver b.may in
+        let number : ℕ = length (takes_of w) in
+        let found : DriverFound x number lease.page word × ((other old : ℕ) → DriverFound w other lease.page old → bound_of old ≤ bound_of word) × (length (takes_of x) ≡ number + 1) = take_found c w lease.page set kept driver b.may in
+        let takes : number + 1 ≡ targets_in (actions_of 0 w.space) = b.takes in
+        let last : suc number ≡ targets_in (actions_of 0 w.space) = omega arith in
         page_found x (adds_at Taking b.may) refl Taking b.holds (device_now c x).plugged b.sizes b.goes word (taken_bit word == 1) refl
-        (record { found = found.0; late = behind_rounds c w moving b.holds.before (evacuation_did moving t) lease.page word found.1 t.rounds b.holds.rounds.1 })
+        (record {
+          number = number;
+          last = last;
+          behind = record {
+            found = found.0;
+            late = behind_rounds (space_run c w) (DriverFound w) b.holds.before e.block (evacuation_did moving t) lease.page word found.1 b.holds.rounds.0 t.rounds b.holds.rounds.3;
+          };
+        })
     move_at Beginning b = steps_on (behind Beginning).world (adds_at Beginning b.may) refl Beginning b.holds (Loading 0) tt
     move_at (Loading cell) b =
         let word : ℕ = word_found c.opening w.snapshot.words (driver_of w) (steps.Load cell) in
@@ -180,7 +192,7 @@ module _ (c : Setting) (w : World) (h : HostState) (e : Evacuating) (t : Tale) (
     move_at (Releasing found) b =
         let x : World = (behind (Releasing found)).world in
         let adds : Adds c w x = adds_at (Releasing found) b.may in
-        move_told x adds refl (Releasing found) b.holds (device_now c x).plugged b.sizes b.goes found b.stays_at (move_still c w x adds t lease (Releasing found) b.step)
+        move_told x adds refl (Releasing found) b.holds (device_now c x).plugged b.sizes b.goes found b.stays_at (move_still c w x adds refl t lease (Releasing found) b.step)
 
     move_behind : (at : MovePlace) (stage : Stage) → stage ≡ stages.Moving lease → IsBefore at stage → IsBehind at stage
     move_behind at stage is = subst (λ (s : Stage). IsBefore at s → IsBehind at s) (sym is) (move_at at)
@@ -200,42 +212,43 @@ module _ (c : Setting) (w : World) (h : HostState) (t : Tale) (set : IsSetting c
       let x : Made = made_at left place in
       HostFound c x.world (host_after (device_now c x.world).plugged (placed left place) x.heard) (tale_heard (placed left place) t x.heard)
 
-  found_at : (left : List HostCommand) (place : HostPlace) → HostSeat c w (placed left place) → HostSpace c w (placed left place) t → HostFound c w (placed left place) t → host_ended (placed left place) ≡ false
+  found_at : (left : List HostCommand) (place : HostPlace) → HostSeat c w (placed left place) → HostSpace c w (placed left place) t → HostFound c w (placed left place) t → HasTakes w (placed left place) → host_ended (placed left place) ≡ false
       → MayMake c 0 w (host_action (placed left place)) → IsFoundAt left place
-  found_at [] place seat space found going may = absurd (true≢false going)
-  found_at (command ∷ more) places.Asking seat space found going may =
+  found_at [] place seat space found takes going may = absurd (true≢false going)
+  found_at (command ∷ more) places.Asking seat space found takes going may =
       let g : HostState = placed (command ∷ more) places.Asking in
       let x : Made = made_at (command ∷ more) places.Asking in
       result_found c x.world (device_now c x.world).plugged (answered g command (result_in x.heard)) (result_in x.heard)
-  found_at (command ∷ more) places.Evacuating seat space found going may =
+  found_at (command ∷ more) places.Evacuating seat space found takes going may =
       let g : HostState = placed (command ∷ more) places.Evacuating in
       let x : Made = made_at (command ∷ more) places.Evacuating in
       told_found c x.world (device_now c x.world).plugged g t (seen_in (action_of h.evacuation) x.heard) (told_evacuating c w g t set kept seat space found going may refl)
-  found_at (command ∷ more) (places.Moving lease at) seat space found going may =
+  found_at (command ∷ more) (places.Moving lease at) seat space found takes going may =
       move_behind c w (placed (command ∷ more) (places.Moving lease at)) h.evacuation t lease set kept seat.driver at h.evacuation.stage space.place.1 (record {
         sizes = space.place.0.sizes;
         goes = space.place.0.goes_by;
         holds = found.place.0;
         step = found.place.1;
+        takes = takes;
         stays_at = space.place.2;
         may = may;
       })
-  found_at (command ∷ more) places.TakingAway seat space found going may = record { place = tt }
-  found_at (command ∷ more) (places.Zeroing frame cell) seat space found going may =
+  found_at (command ∷ more) places.TakingAway seat space found takes going may = record { place = tt }
+  found_at (command ∷ more) (places.Zeroing frame cell) seat space found takes going may =
       let x : Made = made_at (command ∷ more) (places.Zeroing frame cell) in
       zeroed_found c x.world (placed (command ∷ more) (places.Zeroing frame cell)) t frame cell (nat_lt (cell + 1) h.sizes.cells)
-  found_at (command ∷ more) (places.MarkingZeros frame) seat space found going may =
+  found_at (command ∷ more) (places.MarkingZeros frame) seat space found takes going may =
       let g : HostState = placed (command ∷ more) (places.MarkingZeros frame) in
       let x : Made = made_at (command ∷ more) (places.MarkingZeros frame) in
       marked_found c x.world g (record g { tried = g.tried ++ emptied_lines (g.evacuation.block.0 ∷ []) }) (record { 0 = frame.0 + 1 })
       (nat_lt (frame.0 + 1) (first_frame h.sizes h.evacuation.block.0 + h.sizes.block))
-  found_at (command ∷ more) (places.PuttingOnline result) seat space found going may =
+  found_at (command ∷ more) (places.PuttingOnline result) seat space found takes going may =
       let g : HostState = placed (command ∷ more) (places.PuttingOnline result) in
       let x : Made = made_at (command ∷ more) (places.PuttingOnline result) in
       result_found c x.world (device_now c x.world).plugged (record g { waiting = g.waiting + 1 }) result
 
 -- Where a block is being emptied behind the action, all that its evacuation was told is true.
-pub found_after : (c : Setting) (w : World) (h : HostState) (t : Tale) → IsSetting c → IsConsistent c w → HostSeat c w h → HostSpace c w h t → HostFound c w h t → host_ended h ≡ false → MayMake c 0 w (host_action h)
+pub found_after : (c : Setting) (w : World) (h : HostState) (t : Tale) → IsSetting c → IsConsistent c w → HostSeat c w h → HostSpace c w h t → HostFound c w h t → HasTakes w h → host_ended h ≡ false → MayMake c 0 w (host_action h)
     → let x : Made = made c 0 w (host_action h) in
     HostFound c x.world (host_after (device_now c x.world).plugged h x.heard) (tale_heard h t x.heard)
-found_after c w h t set kept seat space found going may = found_at c w h t set kept h.left h.place seat space found going may
+found_after c w h t set kept seat space found takes going may = found_at c w h t set kept h.left h.place seat space found takes going may

@@ -1,6 +1,7 @@
 -- What an action adds to the frame space's journal and to the words that the driver's takes found. Both only grow, and so all that was
 -- true of them stays true.
-use Rattle.std.proofs.Common.{◌≡◌, ℕ, ◌<◌, ◌≤◌, ◌==◌, cond, Bool, true, false, List, [], ◌∷◌, ◌++◌, length, append-nil, ne_eqb, refl, sym, ◌∙◌, subst, arith, Option, Some, None}
+use Rattle.std.specs.Prelude.{⊤}
+use Rattle.std.proofs.Common.{◌≡◌, ℕ, suc, ◌+◌, ◌<◌, ◌≤◌, ◌==◌, cond, Bool, true, false, List, [], ◌∷◌, ◌++◌, length, length-append, append-nil, ne_eqb, refl, sym, ap, ◌∙◌, subst, arith, Option, Some, None}
 use Rattle.std.specs.List.{slice_get}
 use Rattle.evac_model.specs.declared.evacuation.MoveLease.{MoveLease}
 use Rattle.evac_model.specs.declared.names.BlockNo.{BlockNo}
@@ -22,7 +23,6 @@ use Rattle.core_state.specs.declared.step.Step.{Step}
 use Rattle.core_state.specs.declared.step.Step.TheVariants.{Take, Draw, Load, Store, Mark, Release}
 use Rattle.core_state.specs.declared.view.View.{View}
 use Rattle.core_state.specs.MoveSteps.{view_after_move}
-use Rattle.core_state.specs.Rearranged.{HasNotice}
 use Rattle.core_state.specs.Stepped.{word_found}
 use Rattle.core_state.specs.Steps.{notice_of, view_after}
 use Rattle.core_state.specs.Views.{right_to}
@@ -32,7 +32,7 @@ use Rattle.evacuate.specs.declared.stage.Stage.{Stage}
 use Rattle.evacuate.specs.declared.stage.Stage.TheVariants as stages
 use Rattle.evacuate.specs.Evacuating.{Evacuating}
 use Rattle.evacuate.specs.Tale.{Tale}
-use Rattle.host_work.specs.Truth.{WasOut, IsCauseTrue}
+use Rattle.host_work.specs.Truth.{SpaceRun, targets_in, take_at, Finds}
 use Rattle.space.specs.Refusals.{first_unmovable, next_out}
 use Rattle.machine.specs.declared.action.Action.{Action}
 use Rattle.machine.specs.declared.action.Action.TheVariants as actions
@@ -47,9 +47,9 @@ use Rattle.machine.specs.World.{Setting, World, IsOwnerSeat, space_now}
 use Rattle.machine.proofs.Elsewhere.{driver_stays, driver_changes_hand}
 use Rattle.core_actors.specs.declared.host_place.MovePlace.{MovePlace}
 use Rattle.core_actors.specs.declared.host_place.MovePlace.TheVariants as moves
-use Rattle.core_actors.specs.HostFound.{space_run, DriverFound, evacuation_did, IsNotAbove, AreNotAbove, IsTrueAttempt, AreTrueRounds, IsTrueAt, HasToldTrue, IsTrueMove}
+use Rattle.core_actors.specs.HostFound.{space_run, takes_of, DriverFound, evacuation_did, IsNotAbove, AreNotAbove, IsTrueAttempt, AreTrueRounds, IsTrueAt, HasToldTrue, IsTrueMove}
 use Rattle.core_actors.specs.HostSeat.{IsDriver}
-use Rattle.core_actors.proofs.HostRoundsTrue.{out_adds, cause_adds, behind_adds, attempt_adds, rounds_adds}
+use Rattle.core_actors.proofs.HostRoundsTrue.{longer_adds, take_adds, behind_adds, cause_adds, lease_adds, attempt_adds, rounds_adds}
 use Rattle.core_actors.proofs.HostTruths.{Adds}
 use Rattle.core_actors.proofs.HostViews.{driver_of, driver_there, driver_stepped, driver_moved}
 
@@ -93,43 +93,55 @@ action_journal c seat w (actions.Device (Request bytes)) = same_journal w
 action_journal c seat w (actions.Device Config) = same_journal w
 action_journal c seat w actions.Ended = same_journal w
 
--- ---- the words that were found
+-- ---- the takes and the words that they found
+
+-- the action takes a page
+abbrev pub IsTake : Action → Type 0
+IsTake (actions.Step (Take page)) = ⊤
+IsTake _ = ⊥
+
+-- other steps note no take, and nor does a step of a move
+step_takes : (v : View) (step : Step) (found : ℕ) → ¬ IsTake (actions.Step step) → (view_after OneOwner v step found).noticed.by_right ≡ v.noticed.by_right
+step_takes v (Take page) found not_take = absurd (not_take tt)
+step_takes v Draw found not_take = refl
+step_takes v (Load cell) found not_take = refl
+step_takes v (Store frame cell value) found not_take = refl
+step_takes v (Mark frame) found not_take = refl
+step_takes v (Release None) found not_take = refl
+step_takes v (Release (Some end)) found not_take = refl
+
+move_takes : (v : View) (step : MoveStep) → (view_after_move OneOwner v step).noticed.by_right ≡ v.noticed.by_right
+move_takes v Moving = refl
+move_takes v (Remap frame) = refl
+move_takes v (Map frame kind) = refl
+move_takes v Unmap = refl
+
+-- the takes in the driver's view
+abbrev takes_in : View → List Notice
+takes_in v = v.noticed.by_right
+
+-- an action that isn't a take leaves the driver's takes as they were
+pub takes_kept : (c : Setting) (w : World) (action : Action) → IsSetting c → IsConsistent c w → MayMake c 0 w action → ¬ IsTake action → takes_of (made c 0 w action).world ≡ takes_of w
+takes_kept c w (actions.Step step) set kept may not_take =
+    ap (λ (v : View). takes_in v) (driver_stepped c w kept step) ∙ step_takes (driver_of w) step (word_found c.opening w.snapshot.words (driver_of w) step) not_take
+takes_kept c w (actions.Move step) set kept may not_take = ap (λ (v : View). takes_in v) (driver_moved c w kept step) ∙ move_takes (driver_of w) step
+takes_kept c w (actions.Space call) set kept may not_take = ap (λ (v : View). takes_in v) (driver_changes_hand c 0 w (actions.Space call) set kept may tt refl)
+takes_kept c w (actions.Block call) set kept may not_take = ap (λ (v : View). takes_in v) (driver_changes_hand c 0 w (actions.Block call) set kept may tt refl)
+takes_kept c w (actions.Device call) set kept may not_take = ap (λ (v : View). takes_in v) (driver_changes_hand c 0 w (actions.Device call) set kept may tt refl)
+takes_kept c w actions.Ended set kept may not_take = refl
 
 -- a take may add one behind the others
 noticed_longer : (without : Bool) (notices : List Notice) (n old : Notice) (k : ℕ) → slice_get notices k ≡ Some old → slice_get (cond without notices (notices ++ n ∷ [])) k ≡ Some old
 noticed_longer true notices n old k at = at
 noticed_longer false notices n old k at = at_longer notices (n ∷ []) k old at
 
-stepped_has : (v : View) (step : Step) (found : ℕ) (n : Notice) → HasNotice v n → HasNotice (view_after OneOwner v step found) n
-stepped_has v (Take page) found n has = (has.0, noticed_longer (right_to page.0 v == 0) v.noticed.by_right (notice_of v page found) n has.0 has.1)
-stepped_has v Draw found n has = has
-stepped_has v (Load cell) found n has = has
-stepped_has v (Store frame cell value) found n has = has
-stepped_has v (Mark frame) found n has = has
-stepped_has v (Release None) found n has = has
-stepped_has v (Release (Some end)) found n has = has
-
-moved_has : (v : View) (step : MoveStep) (n : Notice) → HasNotice v n → HasNotice (view_after_move OneOwner v step) n
-moved_has v Moving n has = has
-moved_has v (Remap frame) n has = has
-moved_has v (Map frame kind) n has = has
-moved_has v Unmap n has = has
-
--- the driver has them still
-still_has : (before after : View) (n : Notice) → after ≡ record before { hand = after.hand } → HasNotice before n → HasNotice after n
-still_has before after n is has = subst (λ (v : View). HasNotice v n) (sym is) has
-
-driver_has : (c : Setting) (w : World) (action : Action) (n : Notice) → IsSetting c → IsConsistent c w → MayMake c 0 w action → HasNotice (driver_of w) n → HasNotice (driver_of (made c 0 w action).world) n
-driver_has c w (actions.Step step) n set kept may has =
-    subst (λ (v : View). HasNotice v n) (sym (driver_stepped c w kept step)) (stepped_has (driver_of w) step (word_found c.opening w.snapshot.words (driver_of w) step) n has)
-driver_has c w (actions.Move step) n set kept may has = subst (λ (v : View). HasNotice v n) (sym (driver_moved c w kept step)) (moved_has (driver_of w) step n has)
-driver_has c w (actions.Space call) n set kept may has =
-    still_has (driver_of w) (driver_of (made c 0 w (actions.Space call)).world) n (driver_changes_hand c 0 w (actions.Space call) set kept may tt refl) has
-driver_has c w (actions.Block call) n set kept may has =
-    still_has (driver_of w) (driver_of (made c 0 w (actions.Block call)).world) n (driver_changes_hand c 0 w (actions.Block call) set kept may tt refl) has
-driver_has c w (actions.Device call) n set kept may has =
-    still_has (driver_of w) (driver_of (made c 0 w (actions.Device call)).world) n (driver_changes_hand c 0 w (actions.Device call) set kept may tt refl) has
-driver_has c w actions.Ended n set kept may has = has
+-- each take has its number still
+driver_has : (c : Setting) (w : World) (action : Action) (number : ℕ) (n : Notice) → IsSetting c → IsConsistent c w → MayMake c 0 w action → slice_get (takes_of w) number ≡ Some n → slice_get (takes_of (made c 0 w action).world) number ≡ Some n
+driver_has c w (actions.Step (Take page)) number n set kept may has =
+    let v : View = driver_of w in
+    subst (λ (u : View). slice_get (takes_in u) number ≡ Some n) (sym (driver_stepped c w kept (Take page)))
+    (noticed_longer (right_to page.0 v == 0) (takes_in v) (notice_of v page (word_found c.opening w.snapshot.words v (Take page))) n number has)
+driver_has c w action number n set kept may has = ap (λ (l : List Notice). slice_get l number) (takes_kept c w action set kept may (λ is. is)) ∙ has
 
 -- ---- what actions add
 
@@ -139,7 +151,7 @@ driver_adds c w action set kept driver may =
     record {
       more = journal.0;
       space = journal.1;
-      found = λ page word found. (found.0, driver_has c w action (record { page = page; word = word; known = found.0 }) set kept may found.1);
+      found = λ number page word found. (found.0, driver_has c w action number (record { page = page; word = word; known = found.0 }) set kept may found.1);
     }
 
 pub owner_adds : (c : Setting) (seat : ℕ) (w : World) (action : Action) → IsSetting c → IsConsistent c w → IsOwnerSeat c seat → MayMake c seat w action → Adds c w (made c seat w action).world
@@ -148,61 +160,69 @@ owner_adds c seat w action set kept owner may =
     record {
       more = journal.0;
       space = journal.1;
-      found = λ page word found. (found.0, subst (λ (v : View). HasNotice v (record { page = page; word = word; known = found.0 })) (sym (driver_stays c seat w action set kept may owner)) found.1);
+      found = λ number page word found. (found.0, ap (λ (v : View). slice_get (takes_in v) number) (driver_stays c seat w action set kept may owner) ∙ found.1);
     }
 
 -- ---- what the driver's take finds
 
--- The word that it finds is noted, and is the page's entry word before it: no word that the driver found for the page before has a
--- bound above that one's.
+-- It is the last of the driver's takes. The word that it finds is noted, and is the page's entry word before it: no word that the
+-- driver found for the page before has a bound above that one's.
 pub take_found : (c : Setting) (w : World) (page : PageNo) → IsSetting c → IsConsistent c w → IsDriver c.opening (driver_of w) → MayMake c 0 w (actions.Step (Take page))
-    → let word : ℕ = word_found c.opening w.snapshot.words (driver_of w) (Take page) in
-    DriverFound (made c 0 w (actions.Step (Take page))).world page word × ((old : ℕ) → DriverFound w page old → bound_of old ≤ bound_of word)
+    → let x : World = (made c 0 w (actions.Step (Take page))).world in
+    let word : ℕ = word_found c.opening w.snapshot.words (driver_of w) (Take page) in
+    DriverFound x (length (takes_of w)) page word
+    × ((number old : ℕ) → DriverFound w number page old → bound_of old ≤ bound_of word)
+    × (length (takes_of x) ≡ length (takes_of w) + 1)
 take_found c w page set kept driver may =
+    let x : World = (made c 0 w (actions.Step (Take page))).world in
     let v : View = driver_of w in
     let word : ℕ = word_found c.opening w.snapshot.words v (Take page) in
     let n : Notice = notice_of v page word in
-    let notices : List Notice = v.noticed.by_right in
+    let notices : List Notice = takes_of w in
     let right : 0 < right_to page.0 v = driver.rights page.0 may.allowed.in_range in
-    let noted : slice_get (cond (right_to page.0 v == 0) notices (notices ++ n ∷ [])) (length notices) ≡ Some n =
-    subst (λ (without : Bool). slice_get (cond without notices (notices ++ n ∷ [])) (length notices) ≡ Some n) (sym (ne_eqb (right_to page.0 v) 0 (λ none. omega arith))) (at_last notices n) in (
-      (v.actions.known, subst (λ (u : View). HasNotice u n) (sym (driver_stepped c w kept (Take page))) (length notices, noted)),
-      (λ old found. (kept.sound.noticed.by_right 0 v (found.1).0 (record { page = page; word = old; known = found.0 }) (driver_there c w kept) (found.1).1).bound_low),
+    let took : takes_of x ≡ notices ++ n ∷ [] =
+    ap (λ (u : View). takes_in u) (driver_stepped c w kept (Take page)) ∙ ap (λ (without : Bool). cond without notices (notices ++ n ∷ [])) (ne_eqb (right_to page.0 v) 0 (λ none. omega arith)) in (
+      (v.actions.known, ap (λ (l : List Notice). slice_get l (length notices)) took ∙ at_last notices n),
+      (λ number old found. (kept.sound.noticed.by_right 0 v number (record { page = page; word = old; known = found.0 }) (driver_there c w kept) found.1).bound_low),
+      ap (λ (l : List Notice). length l) took ∙ length-append notices (n ∷ []),
     )
 
 -- a word is behind those of true rounds, where none that was found before has a higher bound
-pub behind_rounds : (c : Setting) (w : World) (e : Evacuating) (before own : List SpaceAction) (page : PageNo) (word : ℕ) → ((old : ℕ) → DriverFound w page old → bound_of old ≤ bound_of word)
-    → (rounds : List (List Attempt)) → AreTrueRounds c w e before own rounds → AreNotAbove rounds page word
-behind_rounds c w e before own page word low [] holds = tt
-behind_rounds c w e before own page word low (r ∷ rounds) holds = (
-  all_weaker (IsTrueAttempt c w e before own rounds) (IsNotAbove page word)
-      (λ a is. λ old same found. low old (subst (λ (p : PageNo). DriverFound w p old) same (is.word old found).found)) r holds.0,
-  behind_rounds c w e before own page word low rounds holds.1,
+pub behind_rounds : (r : SpaceRun) (finds : Finds) (before : List SpaceAction) (b : BlockNo) (own : List SpaceAction) (page : PageNo) (word : ℕ) → ((number old : ℕ) → finds number page old → bound_of old ≤ bound_of word)
+    → (end : ℕ) (rounds : List (List Attempt)) → AreTrueRounds r finds before b own end rounds → AreNotAbove rounds page word
+behind_rounds r finds before b own page word low end [] holds = tt
+behind_rounds r finds before b own page word low end (attempts ∷ rounds) holds = (
+  all_weaker (IsTrueAttempt r finds before b own rounds holds.0 end) (IsNotAbove page word)
+      (λ a is. λ old same found. low (take_at r is.leased.place) old (subst (λ (p : PageNo). finds (take_at r is.leased.place) p old) same (is.word old found).found)) attempts holds.2,
+  behind_rounds r finds before b own page word low holds.0 rounds holds.3,
 )
 
 -- ---- what stays true, where the evacuation was told nothing more
 
-module _ (c : Setting) (w x : World) (adds : Adds c w x) where
-  stage_still : (e : Evacuating) (t : Tale) (before : List SpaceAction) (stage : Stage) → IsTrueAt c w e t before stage → IsTrueAt c x e t before stage
-  stage_still e t before stages.Isolating is = tt
-  stage_still e t before (stages.Leasing after) is = tt
-  stage_still e t before (stages.Moving lease) is =
-      subst (λ (own : List SpaceAction). WasOut (space_run c x) before e.block own lease.from lease.page) (append-nil (evacuation_did e t)) (out_adds c w x adds before e.block (evacuation_did e t) [] lease.from lease.page is)
-  stage_still e t before (stages.Returning a) is = subst (λ (own : List SpaceAction). IsTrueAttempt c x e before own t.rounds a) (append-nil (evacuation_did e t)) (attempt_adds c w x adds e e refl before (evacuation_did e t) [] t.rounds a is)
-  stage_still e t before (stages.Undoing cause) is =
-      subst (λ (own : List SpaceAction). IsCauseTrue (space_run c x) (DriverFound x) before e.block own cause) (append-nil (evacuation_did e t)) (cause_adds c w x adds before e.block (evacuation_did e t) [] cause is)
-  stage_still e t before stages.Emptied is = tt
-  stage_still e t before (stages.Failed cause) is =
-      subst (λ (own : List SpaceAction). IsCauseTrue (space_run c x) (DriverFound x) before e.block own cause) (append-nil (evacuation_did e t)) (cause_adds c w x adds before e.block (evacuation_did e t) [] cause is)
+-- The driver made nothing there.
+module _ (c : Setting) (w x : World) (adds : Adds c w x) (same : actions_of 0 x.space ≡ actions_of 0 w.space) where
+  module _ (before : List SpaceAction) (b : BlockNo) (own : List SpaceAction) where
+    stage_still : (rounds : List (List Attempt)) (begin : ℕ) (stage : Stage) → IsTrueAt (space_run c w) (DriverFound w) before b own rounds begin stage → IsTrueAt (space_run c x) (DriverFound x) before b own rounds begin stage
+    stage_still rounds begin stages.Isolating is = tt
+    stage_still rounds begin (stages.Leasing after) is = tt
+    stage_still rounds begin (stages.Moving lease) is = record {
+      at = lease_adds c w x adds before b own [] own (append-nil own) begin (length w.space) (length x.space) (longer_adds c w x adds) lease is.at;
+      last = ap (λ (n : ℕ). suc n) (take_adds c w x adds is.at.place is.at.tried.was_out.inside) ∙ is.last;
+    }
+    stage_still rounds begin (stages.Returning a) is = attempt_adds c w x adds before b own [] own (append-nil own) rounds begin (length w.space) (length x.space) (longer_adds c w x adds) a is
+    stage_still rounds begin (stages.Undoing cause) is = cause_adds c w x adds before b own [] own (append-nil own) cause is
+    stage_still rounds begin stages.Emptied is = tt
+    stage_still rounds begin (stages.Failed cause) is = cause_adds c w x adds before b own [] own (append-nil own) cause is
 
-  pub told_still : (e : Evacuating) (t : Tale) → actions_of 0 x.space ≡ actions_of 0 w.space → HasToldTrue c w e t → HasToldTrue c x e t
-  told_still e t same p = record {
-    before = p.before;
-    did = same ∙ p.did;
-    rounds =
-        subst (λ (own : List SpaceAction). AreTrueRounds c x e p.before own (t.attempts ∷ t.rounds)) (append-nil (evacuation_did e t)) (rounds_adds c w x adds e e refl p.before (evacuation_did e t) [] (t.attempts ∷ t.rounds) p.rounds);
-    stage = stage_still e t p.before e.stage p.stage;
-  }
+  pub told_still : (e : Evacuating) (t : Tale) → HasToldTrue c w e t → HasToldTrue c x e t
+  told_still e t p =
+      let own : List SpaceAction = evacuation_did e t in
+      record {
+        before = p.before;
+        did = same ∙ p.did;
+        rounds = rounds_adds c w x adds p.before e.block own [] own (append-nil own) (length w.space) (length x.space) (longer_adds c w x adds) (t.attempts ∷ t.rounds) p.rounds;
+        stage = stage_still p.before e.block own t.rounds p.rounds.0 e.stage p.stage;
+      }
 
   pub move_still : (t : Tale) (lease : MoveLease) (at : MovePlace) → IsTrueMove w t lease at → IsTrueMove x t lease at
   move_still t lease moves.Taking is = tt
@@ -212,4 +232,8 @@ module _ (c : Setting) (w x : World) (adds : Adds c w x) where
   move_still t lease moves.Marking is = tt
   move_still t lease moves.Remapping is = tt
   move_still t lease (moves.Releasing None) is = tt
-  move_still t lease (moves.Releasing (Some word)) is = behind_adds c w x adds t.rounds lease.page word is
+  move_still t lease (moves.Releasing (Some word)) is = record {
+    number = is.number;
+    last = is.last ∙ ap (λ (l : List SpaceAction). targets_in l) (sym same);
+    behind = behind_adds c w x adds is.number t.rounds lease.page word is.behind;
+  }

@@ -12,12 +12,13 @@ use Rattle.core_actors.specs.Hosts.{HostState, host_ended, host_action}
 use Rattle.core_actors.specs.HostHears.{host_after, line_after}
 use Rattle.core_actors.specs.HostSeat.{HostSeat}
 use Rattle.core_actors.specs.HostSpace.{tale_heard, HostSpace}
-use Rattle.core_actors.specs.HostFound.{HostFound}
+use Rattle.core_actors.specs.HostFound.{HostFound, HasTakes}
 use Rattle.core_actors.specs.HostDid.{run_list, HostDid}
 use Rattle.core_actors.specs.HostKept.{HostKept}
 use Rattle.core_actors.proofs.HostMay.{host_may_make}
 use Rattle.core_actors.proofs.HostGrows.{driver_adds}
 use Rattle.core_actors.proofs.HostFinds.{found_after}
+use Rattle.core_actors.proofs.HostHasTakes.{takes_after}
 use Rattle.core_actors.proofs.HostEvacuatesTrue.{told_evacuating}
 use Rattle.core_actors.proofs.HostTruths.{did_true_of}
 use Rattle.core_actors.proofs.HostPlaces.{IsRoundPlace, IsBlockPlace}
@@ -68,7 +69,10 @@ module _ (c : Setting) (w : World) (runs : List HostRun) (h : HostState) (set : 
       (λ at. space_after_block c w h k.tale set kept k.seat k.space going at may)
 
   found_on : HostFound c x.world (host_after plugged h x.heard) (tale_heard h k.tale x.heard)
-  found_on = found_after c w h k.tale set kept k.seat k.space k.found going may
+  found_on = found_after c w h k.tale set kept k.seat k.space k.found k.takes going may
+
+  takes_on : HasTakes x.world (host_after plugged h x.heard)
+  takes_on = takes_after c w h k.tale set kept k.seat k.space k.takes going may
 
   -- what was done is true of the world behind the action
   did_then : HostDid c x.world w runs h k.tale
@@ -87,5 +91,6 @@ module _ (c : Setting) (w : World) (runs : List HostRun) (h : HostState) (set : 
     seat = seat_on;
     space = space_on;
     found = found_on;
+    takes = takes_on;
     did = did_on;
   }

@@ -1,12 +1,14 @@
 -- What an evacuation was told stays true behind more actions of the frame space. And where it is true of five rounds in which a page was
--- busy, the five words were found for the page, in that order.
-use Rattle.std.proofs.Common.{◌≡◌, ℕ, ◌-◌, ◌≤◌, true, List, [], ◌∷◌, ◌++◌, length, map, reverse, refl, sym, subst, arith, Some}
+-- busy, the five words were found for the page, in that order, each in an attempt of its own.
+use Rattle.std.proofs.Common.{◌≡◌, ℕ, suc, ◌-◌, ◌≤◌, List, [], ◌∷◌, ◌++◌, length, length-append, map, reverse, refl, sym, ap, ◌∙◌, subst, arith, le_refl, le_trans, lt_of_lt_of_le, Some}
 use Rattle.std.specs.List.{AllByRecursion}
 use Rattle.std.specs.List.Sorted.{IsNonDecreasing}
 use Rattle.std.proofs.lemmas.Grind.{reverse_onto}
 use Rattle.std.proofs.lemmas.List.{map-append, reverse-reverse}
 use Rattle.std.proofs.lemmas.List.Sorted.{IsNonDecreasingBy-push}
+use mathlib.Core.List.{reverse_aux}
 use Rattle.evac_model.specs.declared.evacuation.EvacCause.{EvacCause}
+use Rattle.evac_model.specs.declared.evacuation.MoveLease.{MoveLease}
 use Rattle.evac_model.specs.declared.names.BlockNo.{BlockNo}
 use Rattle.evac_model.specs.declared.names.FrameNo.{FrameNo}
 use Rattle.evac_model.specs.declared.names.PageNo.{PageNo}
@@ -15,15 +17,12 @@ use Rattle.evac_model.proofs.Lists.{all_at, all_push, all_weaker}
 use Rattle.evac_words.specs.Word.{bound_of}
 use Rattle.evacuate.specs.declared.stage.Attempt.{Attempt}
 use Rattle.evacuate.specs.Causes.{AreFound, WasBusyInFive}
-use Rattle.evacuate.specs.Evacuating.{Evacuating}
-use Rattle.evacuate.specs.Found.{is_busy}
 use Rattle.evacuate.specs.Tale.{Tale, WasFound}
 use Rattle.evacuate.proofs.Kept.{all_of}
-use Rattle.evacuate.proofs.Rounds.{first_attempted}
-use Rattle.host_work.specs.Truth.{SpaceRun, WasOut, BusyHolds, IsCauseTrue}
-use Rattle.host_work.proofs.TruthGrows.{was_out_grown, true_grown}
+use Rattle.host_work.specs.Truth.{SpaceRun, take_at, Finds, WasTriedAt, AreFoundFrom, BusyHolds, IsCauseTrue}
+use Rattle.host_work.proofs.TruthGrows.{take_at_grown, was_tried_grown, found_from, true_grown}
 use Rattle.machine.specs.World.{Setting, World}
-use Rattle.core_actors.specs.HostFound.{space_run, DriverFound, IsNotAbove, AreNotAbove, IsFoundBehind, IsTrueAttempt, AreTrueRounds}
+use Rattle.core_actors.specs.HostFound.{space_run, DriverFound, IsNotAbove, AreNotAbove, IsFoundBehind, IsTrueLease, IsTrueAttempt, AreTrueRounds}
 use Rattle.core_actors.proofs.HostTruths.{Adds}
 
 -- ---- behind more actions
@@ -32,34 +31,56 @@ abbrev run_by : Setting → List SpaceAction → SpaceRun
 run_by c journal = record { sizes = c.sizes; online = c.online; start = c.space; journal = journal }
 
 module _ (c : Setting) (w x : World) (adds : Adds c w x) where
-  pub out_adds : (before : List SpaceAction) (b : BlockNo) (own own_more : List SpaceAction) (frame : FrameNo) (page : PageNo) → WasOut (space_run c w) before b own frame page → WasOut (space_run c x) before b (own ++ own_more) frame page
-  out_adds before b own own_more frame page was =
-      subst (λ (j : List SpaceAction). WasOut (run_by c j) before b (own ++ own_more) frame page) (sym adds.space)
-      (was_out_grown (space_run c w) adds.more before b own own_more frame page was)
+  pub longer_adds : length w.space ≤ length x.space
+  longer_adds = let same = ap (λ (j : List SpaceAction). length j) adds.space ∙ length-append w.space adds.more in omega arith
 
-  pub cause_adds : (before : List SpaceAction) (b : BlockNo) (own own_more : List SpaceAction) (why : EvacCause) → IsCauseTrue (space_run c w) (DriverFound w) before b own why → IsCauseTrue (space_run c x) (DriverFound x) before b (own ++ own_more) why
-  cause_adds before b own own_more why is =
-      subst (λ (j : List SpaceAction). IsCauseTrue (run_by c j) (DriverFound x) before b (own ++ own_more) why) (sym adds.space)
-      (true_grown (space_run c w) adds.more (DriverFound w) (DriverFound x) adds.found before b own own_more why is)
+  -- the takes before a place stay as many
+  pub take_adds : (place : ℕ) → place ≤ length w.space → take_at (space_run c x) place ≡ take_at (space_run c w) place
+  take_adds place inside = ap (λ (j : List SpaceAction). take_at (run_by c j) place) adds.space ∙ take_at_grown (space_run c w) adds.more place inside
 
-  pub behind_adds : (rounds : List (List Attempt)) (page : PageNo) (word : ℕ) → IsFoundBehind w rounds page word → IsFoundBehind x rounds page word
-  behind_adds rounds page word h = record { found = adds.found page word h.found; late = h.late }
+  pub behind_adds : (number : ℕ) (rounds : List (List Attempt)) (page : PageNo) (word : ℕ) → IsFoundBehind (DriverFound w) number rounds page word → IsFoundBehind (DriverFound x) number rounds page word
+  behind_adds number rounds page word h = record { found = adds.found number page word h.found; late = h.late }
 
-  -- also for the evacuation behind an answer, which is of the same block
-  module _ (e after : Evacuating) (same : after.block ≡ e.block) (before own own_more : List SpaceAction) where
-    pub attempt_adds : (rounds : List (List Attempt)) (a : Attempt) → IsTrueAttempt c w e before own rounds a → IsTrueAttempt c x after before (own ++ own_more) rounds a
-    attempt_adds rounds a h = record {
-      was_out =
-          subst (λ (b : BlockNo). WasOut (space_run c x) before b (own ++ own_more) a.lease.from a.lease.page) (sym same)
-          (out_adds before e.block own own_more a.lease.from a.lease.page h.was_out);
-      word = λ word some. behind_adds rounds a.lease.page word (h.word word some);
+  -- behind what the evacuation did, and maybe more
+  module _ (before : List SpaceAction) (b : BlockNo) (own own_more after : List SpaceAction) (longer : own ++ own_more ≡ after) where
+    pub cause_adds : (why : EvacCause) → IsCauseTrue (space_run c w) (DriverFound w) before b own why → IsCauseTrue (space_run c x) (DriverFound x) before b after why
+    cause_adds why is =
+        subst (λ (l : List SpaceAction). IsCauseTrue (space_run c x) (DriverFound x) before b l why) longer
+        (subst (λ (j : List SpaceAction). IsCauseTrue (run_by c j) (DriverFound x) before b (own ++ own_more) why) (sym adds.space)
+        (true_grown (space_run c w) adds.more (DriverFound w) (DriverFound x) adds.found before b own own_more why is))
+
+    pub tried_adds : (frame : FrameNo) (page : PageNo) (target : FrameNo) (place : ℕ) → WasTriedAt (space_run c w) before b own frame page target place → WasTriedAt (space_run c x) before b after frame page target place
+    tried_adds frame page target place was =
+        subst (λ (l : List SpaceAction). WasTriedAt (space_run c x) before b l frame page target place) longer
+        (subst (λ (j : List SpaceAction). WasTriedAt (run_by c j) before b (own ++ own_more) frame page target place) (sym adds.space)
+        (was_tried_grown (space_run c w) adds.more before b own own_more frame page target place was))
+
+    -- at the same place
+    abbrev pub lease_adds : (begin end later : ℕ) → end ≤ later → (lease : MoveLease) → IsTrueLease (space_run c w) before b own begin end lease → IsTrueLease (space_run c x) before b after begin later lease
+    lease_adds begin end later fits lease h = record {
+      place = h.place;
+      begun = h.begun;
+      ended = lt_of_lt_of_le h.ended fits;
+      tried = tried_adds lease.from lease.page lease.target h.place h.tried;
     }
 
-    pub rounds_adds : (rounds : List (List Attempt)) → AreTrueRounds c w e before own rounds → AreTrueRounds c x after before (own ++ own_more) rounds
-    rounds_adds [] all = tt
-    rounds_adds (r ∷ rounds) all = (
-      all_weaker (IsTrueAttempt c w e before own rounds) (IsTrueAttempt c x after before (own ++ own_more) rounds) (λ a h. attempt_adds rounds a h) r all.0,
-      rounds_adds rounds all.1,
+    pub attempt_adds : (rounds : List (List Attempt)) (begin end later : ℕ) → end ≤ later → (a : Attempt) → IsTrueAttempt (space_run c w) (DriverFound w) before b own rounds begin end a → IsTrueAttempt (space_run c x) (DriverFound x) before b after rounds begin later a
+    attempt_adds rounds begin end later fits a h = record {
+      leased = lease_adds begin end later fits a.lease h.leased;
+      word = λ word some.
+          subst (λ (number : ℕ). IsFoundBehind (DriverFound x) number rounds a.lease.page word) (sym (take_adds h.leased.place h.leased.tried.was_out.inside))
+          (behind_adds (take_at (space_run c w) h.leased.place) rounds a.lease.page word (h.word word some));
+    }
+
+    -- the rounds begin where they began
+    abbrev pub rounds_adds : (end later : ℕ) → end ≤ later → (rounds : List (List Attempt)) → AreTrueRounds (space_run c w) (DriverFound w) before b own end rounds → AreTrueRounds (space_run c x) (DriverFound x) before b after later rounds
+    rounds_adds end later fits [] all = tt
+    rounds_adds end later fits (attempts ∷ rounds) all = (
+      all.0,
+      le_trans all.1 fits,
+      all_weaker (IsTrueAttempt (space_run c w) (DriverFound w) before b own rounds all.0 end) (IsTrueAttempt (space_run c x) (DriverFound x) before b after rounds all.0 later)
+          (λ a h. attempt_adds rounds all.0 end later fits a h) attempts all.2,
+      rounds_adds all.0 all.0 (le_refl all.0) rounds all.3,
     )
 
 -- ---- lists turned round
@@ -68,9 +89,6 @@ module _ {X : Type 0} (P : X → Type 0) where
   all_reversed : (xs : List X) → AllByRecursion P xs → AllByRecursion P (reverse xs)
   all_reversed [] all = tt
   all_reversed (x ∷ xs) all = subst (λ (l : List X). AllByRecursion P l) (sym (reverse_onto xs x [])) (all_push P (reverse xs) (all_reversed xs all.1) x all.0)
-
-  all_back : (xs : List X) → AllByRecursion P (reverse xs) → AllByRecursion P xs
-  all_back xs all = subst (λ (l : List X). AllByRecursion P l) (reverse-reverse xs) (all_reversed (reverse xs) all)
 
 all_bounds : (bound : ℕ) (words : List ℕ) → AllByRecursion (λ (old : ℕ). bound_of old ≤ bound) words → AllByRecursion (λ (n : ℕ). n ≤ bound) (map bound_of words)
 all_bounds bound [] all = tt
@@ -87,49 +105,52 @@ rise_more words word rest low =
 
 -- ---- the words of a page that was busy in each round
 
-module _ (c : Setting) (w : World) (e : Evacuating) (before own : List SpaceAction) (frame : FrameNo) (page : PageNo) where
+module _ (r : SpaceRun) (finds : Finds) (before : List SpaceAction) (b : BlockNo) (own : List SpaceAction) (frame : FrameNo) (page : PageNo) where
   abbrev tried : (target : FrameNo) (word : ℕ) → Attempt
   tried target word = record { lease = record { from = frame; page = page; target = target }; found = Some word }
 
-  -- the word of a round was found, behind those of the rounds before
-  found_in_round : (rounds : List (List Attempt)) (r : List Attempt) (word : ℕ) → AllByRecursion (IsTrueAttempt c w e before own rounds) r → WasFound r frame page word → IsFoundBehind w rounds page word
-  found_in_round rounds r word all found = (all_of (IsTrueAttempt c w e before own rounds) r (tried found.target word) all found.there).word word refl
+  -- the attempt of a round that found the word
+  found_in_round : (rounds : List (List Attempt)) (attempts : List Attempt) (begin end word : ℕ) → AllByRecursion (IsTrueAttempt r finds before b own rounds begin end) attempts → (found : WasFound attempts frame page word)
+      → IsTrueAttempt r finds before b own rounds begin end (tried found.target word)
+  found_in_round rounds attempts begin end word all found = all_of (IsTrueAttempt r finds before b own rounds begin end) attempts (tried found.target word) all found.there
 
-  words_found : (rounds : List (List Attempt)) (words : List ℕ) → AreTrueRounds c w e before own rounds → AreFound frame page rounds words → AllByRecursion (DriverFound w page) words
-  words_found [] [] all found = tt
-  words_found [] (word ∷ words) all found = absurd found
-  words_found (r ∷ rounds) [] all found = tt
-  words_found (r ∷ rounds) (word ∷ words) all found = ((found_in_round rounds r word all.0 found.0).found, words_found rounds words all.1 found.2)
-
-  words_busy : (rounds : List (List Attempt)) (words : List ℕ) → AreFound frame page rounds words → AllByRecursion (λ (word : ℕ). is_busy word frame.0 ≡ true) words
-  words_busy [] [] found = tt
-  words_busy [] (word ∷ words) found = absurd found
-  words_busy (r ∷ rounds) [] found = tt
-  words_busy (r ∷ rounds) (word ∷ words) found = (found.1, words_busy rounds words found.2)
+  -- the words of rounds, the oldest first, and behind them later ones
+  words_found : (rounds : List (List Attempt)) (words later : List ℕ) (end : ℕ) → AreTrueRounds r finds before b own end rounds → AreFound frame page rounds words → AreFoundFrom r finds before b own frame page end later
+      → AreFoundFrom r finds before b own frame page 0 (reverse_aux words later)
+  words_found [] [] later end all found behind = found_from r finds before b own frame page 0 end (omega arith) later behind
+  words_found [] (word ∷ words) later end all found behind = absurd found
+  words_found (attempts ∷ rounds) [] later end all found behind = absurd found
+  words_found (attempts ∷ rounds) (word ∷ words) later end all found behind =
+      let a = found_in_round rounds attempts all.0 end word all.2 found.0 in
+      let place : ℕ = a.leased.place in
+      words_found rounds words (word ∷ later) all.0 all.3 found.2 (
+        place,
+        a.leased.begun,
+        record { target = found.0.target; tried = a.leased.tried; found = (a.word word refl).found },
+        found.1,
+        found_from r finds before b own frame page (suc place) end a.leased.ended later behind,
+      )
 
   -- no word of the rounds before has a bound above that of this one
   older_below : (rounds : List (List Attempt)) (words : List ℕ) (word : ℕ) → AreNotAbove rounds page word → AreFound frame page rounds words → AllByRecursion (λ (old : ℕ). bound_of old ≤ bound_of word) words
   older_below [] [] word late found = tt
   older_below [] (old ∷ words) word late found = absurd found
-  older_below (r ∷ rounds) [] word late found = tt
-  older_below (r ∷ rounds) (old ∷ words) word late found =
-      (all_of (IsNotAbove page word) r (tried found.0.target old) late.0 found.0.there old refl refl, older_below rounds words word late.1 found.2)
+  older_below (attempts ∷ rounds) [] word late found = tt
+  older_below (attempts ∷ rounds) (old ∷ words) word late found =
+      (all_of (IsNotAbove page word) attempts (tried found.0.target old) late.0 found.0.there old refl refl, older_below rounds words word late.1 found.2)
 
   -- the oldest first, their bounds don't fall
-  words_rise : (rounds : List (List Attempt)) (words : List ℕ) → AreTrueRounds c w e before own rounds → AreFound frame page rounds words → IsNonDecreasing (map bound_of (reverse words))
-  words_rise [] [] all found = λ i j d up below. absurd (omega arith)
-  words_rise [] (word ∷ words) all found = absurd found
-  words_rise (r ∷ rounds) [] all found = absurd found
-  words_rise (r ∷ rounds) (word ∷ words) all found =
-      rise_more words word (words_rise rounds words all.1 found.2) (older_below rounds words word (found_in_round rounds r word all.0 found.0).late found.2)
+  words_rise : (rounds : List (List Attempt)) (words : List ℕ) (end : ℕ) → AreTrueRounds r finds before b own end rounds → AreFound frame page rounds words → IsNonDecreasing (map bound_of (reverse words))
+  words_rise [] [] end all found = λ i j d up below. absurd (omega arith)
+  words_rise [] (word ∷ words) end all found = absurd found
+  words_rise (attempts ∷ rounds) [] end all found = absurd found
+  words_rise (attempts ∷ rounds) (word ∷ words) end all found =
+      let a = found_in_round rounds attempts all.0 end word all.2 found.0 in
+      rise_more words word (words_rise rounds words all.0 all.3 found.2) (older_below rounds words word (a.word word refl).late found.2)
 
-  pub busy_true : (t : Tale) (words : List ℕ) → WasBusyInFive t frame page words → AreTrueRounds c w e before own (t.attempts ∷ t.rounds) → BusyHolds (space_run c w) (DriverFound w) before e.block own frame page words
-  busy_true t words busy all =
-      let first = first_attempted t.attempts (record { from = frame; page = page; target = busy.target }) busy.first in
-      record {
-        was_out = (all_of (IsTrueAttempt c w e before own t.rounds) t.attempts (tried busy.target first.word) all.0 first.there).was_out;
-        five = busy.five;
-        found = all_back (DriverFound w page) words (words_found (t.attempts ∷ t.rounds) (reverse words) all busy.found);
-        busy = all_back (λ (word : ℕ). is_busy word frame.0 ≡ true) words (words_busy (t.attempts ∷ t.rounds) (reverse words) busy.found);
-        rising = subst (λ (l : List ℕ). IsNonDecreasing (map bound_of l)) (reverse-reverse words) (words_rise (t.attempts ∷ t.rounds) (reverse words) all busy.found);
-      }
+  pub busy_true : (t : Tale) (words : List ℕ) (end : ℕ) → WasBusyInFive t frame page words → AreTrueRounds r finds before b own end (t.attempts ∷ t.rounds) → BusyHolds r finds before b own frame page words
+  busy_true t words end busy all = record {
+    five = busy.five;
+    found = subst (λ (l : List ℕ). AreFoundFrom r finds before b own frame page 0 l) (reverse-reverse words) (words_found (t.attempts ∷ t.rounds) (reverse words) [] end all busy.found tt);
+    rising = subst (λ (l : List ℕ). IsNonDecreasing (map bound_of l)) (reverse-reverse words) (words_rise (t.attempts ∷ t.rounds) (reverse words) end all busy.found);
+  }

@@ -27,6 +27,7 @@ use Rattle.core_actors.specs.HostKept.{HostKept}
 use Rattle.core_actors.proofs.HostBegins.{begins}
 use Rattle.core_actors.proofs.HostDoesLists.{begun_did}
 use Rattle.core_actors.proofs.HostFinds.{found_at_start}
+use Rattle.core_actors.proofs.HostHasTakes.{takes_at_start}
 
 -- before its first command
 abbrev before_commands : Sizes → List HostCommand → HostState
@@ -75,6 +76,7 @@ module _ (s : Sizes) (online : Kind) (start : List StartPage) (budgets fails : L
         space = begins c w (before_commands s commands) refl short (opened_set s online start budgets fails r) (opened_consistent s online start budgets fails r)
             (opened_none s online start budgets fails) (λ block. refl);
         found = found_at_start c w s (device_at_start s).plugged commands;
+        takes = takes_at_start s online start budgets fails commands;
         did = begun_did c w w [] [] [] (before_commands s commands) (refl, refl) refl tt refl refl (device_at_start s).plugged;
       }
 

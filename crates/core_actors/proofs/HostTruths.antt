@@ -18,11 +18,11 @@ use Rattle.core_actors.specs.HostDid.{taken_away, HasTaken, IsDoneFor, IsPutting
 use Rattle.core_actors.specs.HostFound.{space_run, DriverFound, truth, evacuation_did}
 use Rattle.core_actors.specs.Hosts.{HostState}
 
--- the world has all that the other has: its journal, and the words that the driver's takes found
+-- the world has all that the other has: its journal, and the words that the driver's takes found, each by the take of its number
 pub record Adds (c : Setting) (w x : World) : Type 0 where
   pub more : List SpaceAction
   pub space : x.space ≡ w.space ++ more
-  pub found : (page : PageNo) (word : ℕ) → DriverFound w page word → DriverFound x page word
+  pub found : (number : ℕ) (page : PageNo) (word : ℕ) → DriverFound w number page word → DriverFound x number page word
 
 pub truth_on : (c : Setting) (w x : World) → Adds c w x → Follows (truth c w) (truth c x)
 truth_on c w x adds before b cause own met =

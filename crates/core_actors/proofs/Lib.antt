@@ -51,6 +51,7 @@ pub mod HostRoundsTrue
 pub mod HostMakes
 pub mod HostAnswersTrue
 pub mod HostGrows
+pub mod HostHasTakes
 pub mod HostEvacuatesTrue
 pub mod HostFinds
 pub mod HostElsewhere

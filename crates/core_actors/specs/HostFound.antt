@@ -1,13 +1,14 @@
 -- What the evacuation under way found: that what it was told is true of the frame space's journal and of the words that the driver's
 -- takes found.
-use Rattle.std.specs.Prelude.{◌≡◌, ◌≤◌, ℕ, List, [], ◌∷◌, ◌++◌, None, Some, ⊤}
+use Rattle.std.specs.Prelude.{◌≡◌, ◌<◌, ◌≤◌, ℕ, suc, ◌+◌, List, [], ◌∷◌, ◌++◌, length, slice_get, None, Some, ⊤}
 use Rattle.std.specs.List.{AllByRecursion}
 use Rattle.evac_model.specs.declared.evacuation.MoveLease.{MoveLease}
+use Rattle.evac_model.specs.declared.names.BlockNo.{BlockNo}
 use Rattle.evac_model.specs.declared.names.PageNo.{PageNo}
 use Rattle.evac_model.specs.declared.space.SpaceAction.{SpaceAction}
 use Rattle.evac_model.specs.Pairing.{actions_of}
 use Rattle.evac_words.specs.Word.{bound_of}
-use Rattle.core_state.specs.Rearranged.{HasNotice}
+use Rattle.core_state.specs.declared.noticed.Notice.{Notice}
 use Rattle.core_state.specs.Views.{view_of}
 use Rattle.evacuate.specs.declared.stage.Attempt.{Attempt}
 use Rattle.evacuate.specs.declared.stage.Stage.{Stage}
@@ -17,7 +18,7 @@ use Rattle.evacuate.specs.Tale.{Tale}
 use Rattle.evacuate.specs.UnderWay.{log_of}
 use Rattle.host_work.specs.Evacuated.{space_actions}
 use Rattle.host_work.specs.Requests.{Evacuates}
-use Rattle.host_work.specs.Truth.{SpaceRun, Finds, WasOut, IsCauseTrue, by_truth}
+use Rattle.host_work.specs.Truth.{SpaceRun, targets_in, take_at, Finds, WasTriedAt, IsCauseTrue, by_truth}
 use Rattle.machine.specs.World.{Setting, World}
 use Rattle.core_actors.specs.declared.host_place.HostPlace.{HostPlace}
 use Rattle.core_actors.specs.declared.host_place.HostPlace.TheVariants as places
@@ -31,9 +32,13 @@ use Rattle.core_actors.specs.Hosts.{HostState}
 abbrev pub space_run : Setting → World → SpaceRun
 space_run c w = record { sizes = c.sizes; online = c.online; start = c.space; journal = w.space }
 
--- a take of the driver's, by its right to move the page, found that word
+-- the takes of the driver, by its rights to move the pages, in order, with the words that they found
+abbrev pub takes_of : World → List Notice
+takes_of w = (view_of w.snapshot.views 0).noticed.by_right
+
+-- the take of that number found that word for the page
 abbrev pub DriverFound : World → Finds
-DriverFound w page word = (known : ℕ) × HasNotice (view_of w.snapshot.views 0) (record { page = page; word = word; known = known })
+DriverFound w number page word = (known : ℕ) × (slice_get (takes_of w) number ≡ Some (record { page = page; word = word; known = known }))
 
 -- what an evacuation of a block may have done: by a tale, and with a cause that is true of that world
 abbrev pub truth : Setting → World → Evacuates
@@ -52,39 +57,63 @@ IsNotAbove page word a = (old : ℕ) → a.lease.page ≡ page → a.found ≡ S
 abbrev pub AreNotAbove : List (List Attempt) → PageNo → (word : ℕ) → Type 0
 AreNotAbove rounds page word = AllByRecursion (AllByRecursion (IsNotAbove page word)) rounds
 
--- the driver found the word for the page, behind those of the rounds before
-pub record IsFoundBehind (w : World) (rounds : List (List Attempt)) (page : PageNo) (word : ℕ) : Type 0 where
-  pub found : DriverFound w page word
+-- the take of that number found the word for the page, behind those of the rounds before
+pub record IsFoundBehind (finds : Finds) (number : ℕ) (rounds : List (List Attempt)) (page : PageNo) (word : ℕ) : Type 0 where
+  pub found : finds number page word
   pub late : AreNotAbove rounds page word
 
--- the page of the attempt was out in its frame, and the word that is said to be found for it was found, behind those of the
--- rounds before
-pub record IsTrueAttempt (c : Setting) (w : World) (e : Evacuating) (before own : List SpaceAction) (rounds : List (List Attempt)) (a : Attempt) : Type 0 where
-  pub was_out : WasOut (space_run c w) before e.block own a.lease.from a.lease.page
-  pub word : (word : ℕ) → a.found ≡ Some word → IsFoundBehind w rounds a.lease.page word
+-- ---- attempts of an evacuation, in a part of the journal: from `begin` on, and before `end`
 
--- rounds, the newest first
-abbrev pub AreTrueRounds : Setting → World → Evacuating → (before own : List SpaceAction) → List (List Attempt) → Type 0
-AreTrueRounds c w e before own [] = ⊤
-AreTrueRounds c w e before own (r ∷ rounds) = AllByRecursion (IsTrueAttempt c w e before own rounds) r × AreTrueRounds c w e before own rounds
+-- the page of the lease was out in its frame, and its target was leased
+pub record IsTrueLease (r : SpaceRun) (before : List SpaceAction) (b : BlockNo) (own : List SpaceAction) (begin end : ℕ) (lease : MoveLease) : Type 0 where
+  pub place : ℕ
+  pub begun : begin ≤ place
+  pub ended : place < end
+  pub tried : WasTriedAt r before b own lease.from lease.page lease.target place
+
+-- and the word that is said to be found for it was found by the take of that lease, behind those of the rounds before
+pub record IsTrueAttempt (r : SpaceRun) (finds : Finds) (before : List SpaceAction) (b : BlockNo) (own : List SpaceAction) (rounds : List (List Attempt)) (begin end : ℕ) (a : Attempt) : Type 0 where
+  pub leased : IsTrueLease r before b own begin end a.lease
+  pub word : (word : ℕ) → a.found ≡ Some word → IsFoundBehind finds (take_at r leased.place) rounds a.lease.page word
+
+-- Rounds, the newest first, before `end`. Each has a part of the journal of its own, behind those of the rounds before.
+abbrev pub AreTrueRounds : SpaceRun → Finds → (before : List SpaceAction) → BlockNo → (own : List SpaceAction) → (end : ℕ) → List (List Attempt) → Type 0
+AreTrueRounds r finds before b own end [] = ⊤
+AreTrueRounds r finds before b own end (attempts ∷ rounds) =
+    (begin : ℕ)
+    × (begin ≤ end)
+    × AllByRecursion (IsTrueAttempt r finds before b own rounds begin end) attempts
+    × AreTrueRounds r finds before b own begin rounds
 
 -- ---- by where the evacuation stands
 
-abbrev pub IsTrueAt : Setting → World → Evacuating → Tale → (before : List SpaceAction) → Stage → Type 0
-IsTrueAt c w e t before stages.Isolating = ⊤
-IsTrueAt c w e t before (stages.Leasing after) = ⊤
-IsTrueAt c w e t before (stages.Moving lease) = WasOut (space_run c w) before e.block (evacuation_did e t) lease.from lease.page
-IsTrueAt c w e t before (stages.Returning a) = IsTrueAttempt c w e before (evacuation_did e t) t.rounds a
-IsTrueAt c w e t before (stages.Undoing cause) = IsCauseTrue (space_run c w) (DriverFound w) before e.block (evacuation_did e t) cause
-IsTrueAt c w e t before stages.Emptied = ⊤
-IsTrueAt c w e t before (stages.Failed cause) = IsCauseTrue (space_run c w) (DriverFound w) before e.block (evacuation_did e t) cause
+-- the target of the lease is the last that the driver leased
+pub record IsTrueMoving (r : SpaceRun) (before : List SpaceAction) (b : BlockNo) (own : List SpaceAction) (begin : ℕ) (lease : MoveLease) : Type 0 where
+  pub at : IsTrueLease r before b own begin (length r.journal) lease
+  pub last : suc (take_at r at.place) ≡ targets_in (before ++ own)
+
+-- with the rounds before the one under way, and the place of the journal at which that one began
+abbrev pub IsTrueAt : SpaceRun → Finds → (before : List SpaceAction) → BlockNo → (own : List SpaceAction) → List (List Attempt) → (begin : ℕ) → Stage → Type 0
+IsTrueAt r finds before b own rounds begin stages.Isolating = ⊤
+IsTrueAt r finds before b own rounds begin (stages.Leasing after) = ⊤
+IsTrueAt r finds before b own rounds begin (stages.Moving lease) = IsTrueMoving r before b own begin lease
+IsTrueAt r finds before b own rounds begin (stages.Returning a) = IsTrueAttempt r finds before b own rounds begin (length r.journal) a
+IsTrueAt r finds before b own rounds begin (stages.Undoing cause) = IsCauseTrue r finds before b own cause
+IsTrueAt r finds before b own rounds begin stages.Emptied = ⊤
+IsTrueAt r finds before b own rounds begin (stages.Failed cause) = IsCauseTrue r finds before b own cause
 
 -- Behind what the driver had done before, the evacuation did what its log says, and what it was told is true.
 pub record HasToldTrue (c : Setting) (w : World) (e : Evacuating) (t : Tale) : Type 0 where
   pub before : List SpaceAction
   pub did : actions_of 0 w.space ≡ before ++ evacuation_did e t
-  pub rounds : AreTrueRounds c w e before (evacuation_did e t) (t.attempts ∷ t.rounds)
-  pub stage : IsTrueAt c w e t before e.stage
+  pub rounds : AreTrueRounds (space_run c w) (DriverFound w) before e.block (evacuation_did e t) (length w.space) (t.attempts ∷ t.rounds)
+  pub stage : IsTrueAt (space_run c w) (DriverFound w) before e.block (evacuation_did e t) t.rounds rounds.0 e.stage
+
+-- the word was found by the take of the last lease of a target
+pub record IsFoundLast (w : World) (rounds : List (List Attempt)) (page : PageNo) (word : ℕ) : Type 0 where
+  pub number : ℕ
+  pub last : suc number ≡ targets_in (actions_of 0 w.space)
+  pub behind : IsFoundBehind (DriverFound w) number rounds page word
 
 -- the word for which a page is let go was found
 abbrev pub IsTrueMove : World → Tale → MoveLease → MovePlace → Type 0
@@ -95,7 +124,7 @@ IsTrueMove w t lease (Storing cell value) = ⊤
 IsTrueMove w t lease Marking = ⊤
 IsTrueMove w t lease Remapping = ⊤
 IsTrueMove w t lease (Releasing None) = ⊤
-IsTrueMove w t lease (Releasing (Some word)) = IsFoundBehind w t.rounds lease.page word
+IsTrueMove w t lease (Releasing (Some word)) = IsFoundLast w t.rounds lease.page word
 
 abbrev pub IsTruePlace : Setting → World → HostState → Tale → HostPlace → Type 0
 IsTruePlace c w h t places.Asking = ⊤
@@ -109,3 +138,12 @@ IsTruePlace c w h t (places.PuttingOnline result) = ⊤
 -- Where a block is being emptied, all that its evacuation was told is true.
 pub record HostFound (c : Setting) (w : World) (h : HostState) (t : Tale) : Type 0 where
   pub place : IsTruePlace c w h t h.place
+
+-- the takes that are still to be made: that of the page for which a target was just leased
+abbrev pub takes_left : HostPlace → ℕ
+takes_left (places.Moving lease Taking) = 1
+takes_left _ = 0
+
+-- The driver made as many takes as it leased targets, but for the one that is still to be made.
+abbrev pub HasTakes : World → HostState → Type 0
+HasTakes w h = length (takes_of w) + takes_left h.place ≡ targets_in (actions_of 0 w.space)

@@ -24,7 +24,7 @@ use Rattle.evac_model.specs.DeviceJournal.{calls_after_act, backing_refuses, tel
 use Rattle.evac_model.specs.Pairing.{actions_of}
 use Rattle.mem_codec.specs.ResponseBytes.{HasState}
 use Rattle.host_work.specs.Commands.{IsDoneBy, AreDoneBy}
-use Rattle.host_work.specs.FoundWords.{IsWordOf}
+use Rattle.host_work.specs.FoundWords.{AreWordsOf}
 use Rattle.host_work.specs.Requests.{Evacuates}
 use Rattle.host_work.specs.Truth.{by_truth}
 use Rattle.host_work.proofs.Parts.{all_parts}
@@ -127,5 +127,5 @@ runs_have_states E before s d (x ∷ xs) actions device done all =
 pub have_states : (s : Scenario) (r : Report) → IsReportOf s r → HaveStates r
 have_states s r h =
     let device = actions_have_states s.geometry (device_start s) (first_of_calls s.fails) r.device_journal h.host.answered in
-    let host = runs_have_states (by_truth (space_told s r) (IsWordOf s.geometry (plain_start s) r.history)) [] s.geometry (device_start s) r.host (actions_of 0 r.space_journal) r.device_journal h.host.did device in
+    let host = runs_have_states (by_truth (space_told s r) (AreWordsOf s.geometry (plain_start s) r.history)) [] s.geometry (device_start s) r.host (actions_of 0 r.space_journal) r.device_journal h.host.did device in
     record { host = host; device = device }

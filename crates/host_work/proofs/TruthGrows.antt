@@ -1,8 +1,8 @@
 -- What is true of a frame space's journal is true of every longer one, and what is true of the words that were found is true
 -- of more words.
-use Rattle.std.proofs.Common.{◌≡◌, ◌≤◌, ℕ, List, [], ◌∷◌, ◌++◌, length, length-append, append_assoc, append-nil, ap, ◌∙◌, subst, arith, Option, None, Some}
+use Rattle.std.proofs.Common.{◌≡◌, ◌≤◌, ℕ, suc, ◌+◌, List, [], ◌∷◌, ◌++◌, length, filter, length-append, append_assoc, append-nil, sym, ap, ◌∙◌, subst, arith, Option, None, Some}
 use Rattle.std.proofs.lemmas.List.{take-append-le}
-use Rattle.std.specs.List.{AllByRecursion}
+use Rattle.std.proofs.lemmas.List.Elements.{filter-append}
 use Rattle.evac_model.specs.declared.device.Response.{Response}
 use Rattle.evac_model.specs.declared.device_journal.DeviceAction.{DeviceAction}
 use Rattle.evac_model.specs.declared.evacuation.EvacCause.{EvacCause}
@@ -24,10 +24,11 @@ use Rattle.evac_model.specs.Geometry.{Sizes}
 use Rattle.evac_model.specs.Numbers.{is_in}
 use Rattle.evac_model.specs.Pairing.{actions_of}
 use Rattle.evac_model.specs.SpaceJournal.{SpaceState, IsLeasable, out_for, space_after}
+use Rattle.core_state.proofs.Lists.{at_longer}
 use Rattle.host_work.specs.Commands.{IsDoneBy, AreDoneBy}
 use Rattle.host_work.specs.Evacuated.{WasEvacuated}
 use Rattle.host_work.specs.Requests.{Evacuates, block_no, blocks_to_empty, AreTakenAway, WasSent, WasNotSent}
-use Rattle.host_work.specs.Truth.{SpaceRun, Finds, stood, driver_did, WasOutAt, WasOut, UnmovableHolds, NoTargetHolds, HoldsFor, IsCauseTrue, HasTrueCause, by_truth}
+use Rattle.host_work.specs.Truth.{SpaceRun, stood, driver_did, is_target, targets_in, take_at, Finds, WasOutAt, WasTriedAt, WasFoundAt, UnmovableHolds, NoTargetHolds, AreFoundFrom, HoldsFor, IsCauseTrue, HasTrueCause, by_truth}
 
 -- the same frame space with more in its journal
 abbrev pub grown : SpaceRun → List SpaceAction → SpaceRun
@@ -35,7 +36,7 @@ grown r more = record r { journal = r.journal ++ more }
 
 -- one set of found words says what the other says, and maybe more
 abbrev pub FindsMore : (F G : Finds) → Type 0
-FindsMore F G = (page : PageNo) (word : ℕ) → F page word → G page word
+FindsMore F G = (number : ℕ) (page : PageNo) (word : ℕ) → F number page word → G number page word
 
 -- ---- places of the journal
 
@@ -46,8 +47,15 @@ module _ (r : SpaceRun) (more : List SpaceAction) (place : ℕ) (inside : place 
   pub did_grown : driver_did (grown r more) place ≡ driver_did r place
   did_grown = ap (λ (l : List SpaceAction). actions_of 0 l) (take-append-le place r.journal more inside)
 
+  pub take_at_grown : take_at (grown r more) place ≡ take_at r place
+  take_at_grown = ap (λ (l : List SpaceAction). targets_in l) did_grown
+
   pub inside_grown : place ≤ length (r.journal ++ more)
   inside_grown = omega (arith, inside, length-append r.journal more)
+
+-- the targets of one list behind another
+pub targets_append : (xs ys : List SpaceAction) → targets_in (xs ++ ys) ≡ targets_in xs + targets_in ys
+targets_append xs ys = ap (λ (l : List SpaceAction). length l) (filter-append is_target xs ys) ∙ length-append (filter is_target xs) (filter is_target ys)
 
 -- ---- the causes
 
@@ -65,8 +73,14 @@ module _ (r : SpaceRun) (more before : List SpaceAction) where
         out = ap (λ (st : SpaceState). out_for st frame.0) same ∙ h.out;
       }
 
-  pub was_out_grown : (b : BlockNo) (own own_more : List SpaceAction) (frame : FrameNo) (page : PageNo) → WasOut r before b own frame page → WasOut (grown r more) before b (own ++ own_more) frame page
-  was_out_grown b own own_more frame page h = (h.0, was_out_at_grown b own own_more frame page h.0 h.1)
+  pub was_tried_grown : (b : BlockNo) (own own_more : List SpaceAction) (frame : FrameNo) (page : PageNo) (target : FrameNo) (place : ℕ) → WasTriedAt r before b own frame page target place → WasTriedAt (grown r more) before b (own ++ own_more) frame page target place
+  unfolding was_out_at_grown
+  was_tried_grown b own own_more frame page target place h = record {
+    was_out = was_out_at_grown b own own_more frame page place h.was_out;
+    more = h.more ++ own_more;
+    next = ap (λ (l : List SpaceAction). l ++ own_more) h.next;
+    leased = at_longer r.journal more place (space.MoveLease target page) h.leased;
+  }
 
   was_unmovable_grown : (frame : FrameNo) (page : PageNo) → UnmovableHolds r before frame page → UnmovableHolds (grown r more) before frame page
   was_unmovable_grown frame page h = record {
@@ -82,29 +96,45 @@ module _ (r : SpaceRun) (more before : List SpaceAction) where
     none_free = λ free leasable. h.none_free free (subst (λ (st : SpaceState). IsLeasable r.sizes r.online st kinds.Movable free) (stood_grown r more at h.was_out.inside) leasable);
   }
 
-pub all_found : (F G : Finds) → FindsMore F G → (page : PageNo) (words : List ℕ) → AllByRecursion (F page) words → AllByRecursion (G page) words
-all_found F G finds page [] all = tt
-all_found F G finds page (word ∷ words) all = (finds page word all.0, all_found F G finds page words all.1)
-
 module _ (r : SpaceRun) (more : List SpaceAction) (F G : Finds) (finds : FindsMore F G) (before : List SpaceAction) (b : BlockNo) where
+  was_found_grown : (own own_more : List SpaceAction) (frame : FrameNo) (page : PageNo) (word place : ℕ) → WasFoundAt r F before b own frame page word place → WasFoundAt (grown r more) G before b (own ++ own_more) frame page word place
+  was_found_grown own own_more frame page word place h = record {
+    target = h.target;
+    tried = was_tried_grown r more before b own own_more frame page h.target place h.tried;
+    found = subst (λ (number : ℕ). G number page word) (sym (take_at_grown r more place h.tried.was_out.inside)) (finds (take_at r place) page word h.found);
+  }
+
+  are_found_grown : (own own_more : List SpaceAction) (frame : FrameNo) (page : PageNo) (from : ℕ) (words : List ℕ) → AreFoundFrom r F before b own frame page from words → AreFoundFrom (grown r more) G before b (own ++ own_more) frame page from words
+  are_found_grown own own_more frame page from [] all = tt
+  are_found_grown own own_more frame page from (word ∷ words) all = (
+    all.0,
+    all.1,
+    was_found_grown own own_more frame page word all.0 all.2,
+    all.3,
+    are_found_grown own own_more frame page (suc all.0) words all.4,
+  )
+
   holds_grown : (own own_more : List SpaceAction) (cause : EvacCause) → HoldsFor r F before b own cause → HoldsFor (grown r more) G before b (own ++ own_more) cause
   holds_grown own own_more (Unmovable frame page) h = was_unmovable_grown r more before frame page h
   holds_grown own own_more (Pinned frame page word) h = record {
-    was_out = was_out_grown r more before b own own_more frame page h.was_out;
-    found = finds page word h.found;
+    place = h.place;
+    found = was_found_grown own own_more frame page word h.place h.found;
     pinned = h.pinned;
   }
   holds_grown own own_more (NoTarget frame page at) h = had_no_target_grown r more before b own own_more frame page at h
   holds_grown own own_more (Busy frame page words) h = record {
-    was_out = was_out_grown r more before b own own_more frame page h.was_out;
     five = h.five;
-    found = all_found F G finds page words h.found;
-    busy = h.busy;
+    found = are_found_grown own own_more frame page 0 words h.found;
     rising = h.rising;
   }
 
   pub true_grown : (own own_more : List SpaceAction) (cause : EvacCause) → IsCauseTrue r F before b own cause → IsCauseTrue (grown r more) G before b (own ++ own_more) cause
   true_grown own own_more cause h = record { in_block = h.in_block; holds = holds_grown own own_more cause h.holds }
+
+-- words that were found from a place on were found from an earlier place on, too
+pub found_from : (r : SpaceRun) (finds : Finds) (before : List SpaceAction) (b : BlockNo) (own : List SpaceAction) (frame : FrameNo) (page : PageNo) (early late : ℕ) → early ≤ late → (words : List ℕ) → AreFoundFrom r finds before b own frame page late words → AreFoundFrom r finds before b own frame page early words
+found_from r finds before b own frame page early late below [] all = tt
+found_from r finds before b own frame page early late below (word ∷ words) all = (all.0, omega (arith, below, all.1), all.2, all.3, all.4)
 
 -- ---- an evacuation
 

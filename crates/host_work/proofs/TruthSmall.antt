@@ -4,22 +4,26 @@ use Rattle.std.proofs.lemmas.Option.{same_Some}
 use Rattle.std.specs.FinMap.{gets}
 use Rattle.std.specs.Prelude.{slice_get}
 use Rattle.evac_model.specs.declared.entry.Entry.{Entry}
+use Rattle.evac_model.specs.declared.names.FrameNo.{FrameNo}
 use Rattle.evac_model.specs.declared.names.Kind.{Kind}
 use Rattle.evac_model.specs.declared.names.Kind.TheVariants.{Movable, Unmovable}
+use Rattle.evac_model.specs.declared.names.PageNo.{PageNo}
 use Rattle.evac_model.specs.declared.space.SpaceAction.{SpaceAction}
+use Rattle.evac_model.specs.declared.space.SpaceAction.TheVariants.{MoveLease, Return}
+use Rattle.evac_model.specs.Numbers.{is_in}
 use Rattle.evac_model.specs.Page.{Page, PlainPage, new_page}
 use Rattle.evac_model.specs.PairingExamples.{full}
 use Rattle.evac_model.specs.SpaceJournal.{Out, IsLeasable, out_for}
 use Rattle.evac_model.specs.State.{PlainState, page_at, start_state}
 use Rattle.core_state.specs.NoticedHistory.{ShowsPage}
-use Rattle.evacuate.specs.Examples.{page_no}
+use Rattle.evacuate.specs.Examples.{frame_no, page_no}
 use Rattle.evacuate.specs.Tale.{nothing_tried}
 use Rattle.host_work.specs.Evacuated.{end_by, WasEvacuated}
 use Rattle.host_work.specs.Examples.{plugged_machine, isolate, undo, attempt, pinned, no_target, busy, unmovable}
 use Rattle.host_work.specs.FoundWords.{page_before}
 use Rattle.host_work.specs.Requests.{block_no}
-use Rattle.host_work.specs.Truth.{stood, IsCauseTrue}
-use Rattle.host_work.specs.TruthExamples.{start_with, run_with, pin_and_unpin, word_of_calls, one_attempt, five_attempts, not_leased, block_3_emptied, IsTrueBy, run_of_two, full_actions, full_run, no_target_in_full, pinned_by, busy_by, taken_at_first, taken_behind_pin, taken_behind_all, pinned_behind_pin, pinned_at_first, pinned_in_21, CausesOfSmall}
+use Rattle.host_work.specs.Truth.{SpaceRun, stood, driver_did, targets_in, WasTriedAt, WasFoundAt, AreFoundFrom, IsCauseTrue}
+use Rattle.host_work.specs.TruthExamples.{start_with, run_with, pin_and_unpin, word_of_calls, first_take, one_attempt, five_attempts, not_leased, block_3_emptied, IsTrueBy, run_of_two, full_actions, full_run, no_target_in_full, pinned_by, busy_by, taken_at_first, taken_behind_pin, taken_behind_all, pinned_behind_pin, pinned_at_first, pinned_in_21, CausesOfSmall}
 use Rattle.host_work.proofs.Small.{pinned_found, busy_in_five, refused}
 
 -- ---- the words
@@ -37,7 +41,7 @@ behind_pin : page_before plugged_machine first pin_and_unpin (page_no 0) 1073762
 behind_pin = rw at_first (simp gets)
 
 -- the page is pinned by the first call, and the word has its bound
-pub pinned_word : word_of_calls (page_no 0) 1073762324
+pub pinned_word : word_of_calls 0 (page_no 0) 1073762324
 pinned_word = record {
   in_range = omega arith;
   bound_is = inr (record { place = 0; entry = _; at = refl; on = refl; next = refl });
@@ -47,7 +51,7 @@ pinned_word = record {
 }
 
 -- the word was taken for either of the calls
-pub taken_word : word_of_calls (page_no 0) taken_at_first
+pub taken_word : word_of_calls 0 (page_no 0) taken_at_first
 taken_word = record {
   in_range = omega arith;
   bound_is = inl refl;
@@ -61,10 +65,10 @@ none_so_late zero e at late = let is : 0 ≡ e.ticket = cc in absurd (omega (ari
 none_so_late (suc zero) e at late = let is : 1 ≡ e.ticket = cc in absurd (omega (arith, is, late))
 none_so_late (suc (suc n)) e at late = absurd (cc)
 
-pub no_call_behind : ¬ word_of_calls (page_no 0) taken_behind_all
+pub no_call_behind : ¬ word_of_calls 0 (page_no 0) taken_behind_all
 no_call_behind h = let since = h.taken refl in none_so_late since.place since.entry since.at since.late
 
-pub pin_of_none : ¬ word_of_calls (page_no 0) pinned_at_first
+pub pin_of_none : ¬ word_of_calls 0 (page_no 0) pinned_at_first
 pin_of_none h =
     let shows : ShowsPage pinned_at_first (Some (new_page 2 Movable)) = subst (λ (m : Page). ShowsPage pinned_at_first m) at_first (h.free refl) in
     let pins : 1 ≡ 0 = shows.flags.2 in
@@ -75,7 +79,7 @@ none_of_page_1 zero e at on = let is : 0 ≡ e.page.0 = ap (λ (x : Entry). x.pa
 none_of_page_1 (suc zero) e at on = let is : 0 ≡ e.page.0 = ap (λ (x : Entry). x.page.0) (same_Some _ e at) in absurd (omega (arith, is, on))
 none_of_page_1 (suc (suc n)) e at on = absurd (cc)
 
-pub another_page : ¬ word_of_calls (page_no 1) pinned_behind_pin
+pub another_page : ¬ word_of_calls 0 (page_no 1) pinned_behind_pin
 another_page h = elim h.bound_is [
   | inl none ↦ absurd (omega (arith, none))
   | inr by ↦ none_of_page_1 by.place by.entry by.at by.on
@@ -83,15 +87,89 @@ another_page h = elim h.bound_is [
 
 -- ---- true causes
 
+-- the target was leased right behind the isolation, whatever the journal has behind the evacuation
+tried_first : (more : List SpaceAction) → WasTriedAt (run_with Unmovable (one_attempt ++ more)) [] (block_no 3) one_attempt (frame_no 20) (page_no 0) (frame_no 0) 1
+tried_first more = record {
+  was_out = record { inside = omega arith; part = isolate 3 ∷ []; rest = attempt 0 ++ undo 3 ∷ []; parts = refl; done = refl; isolated = refl; out = refl };
+  more = Return 0 (frame_no 0) ∷ undo 3 ∷ [];
+  next = refl;
+  leased = refl;
+}
+
 pub was_pinned : IsTrueBy one_attempt pinned
 was_pinned = record {
   in_block = refl;
-  holds = record {
-    was_out = (1, record { inside = omega arith; part = isolate 3 ∷ []; rest = attempt 0 ++ undo 3 ∷ []; parts = refl; done = refl; isolated = refl; out = refl });
-    found = pinned_word;
-    pinned = refl;
-  };
+  holds = record { place = 1; found = record { target = frame_no 0; tried = tried_first []; found = pinned_word }; pinned = refl };
 }
+
+-- the same attempt of the first evacuation, whose take is the first
+pub first_found : IsCauseTrue (run_with Unmovable (one_attempt ++ one_attempt)) first_take [] (block_no 3) one_attempt pinned
+first_found = record {
+  in_block = refl;
+  holds = record { place = 1; found = record { target = frame_no 0; tried = tried_first one_attempt; found = refl }; pinned = refl };
+}
+
+-- ---- five attempts
+
+abbrev in_20 : Out
+in_20 = record { page = 0; kind = Movable }
+
+abbrev five_run : SpaceRun
+five_run = run_with Unmovable five_attempts
+
+-- so many attempts
+abbrev attempts : ℕ → List SpaceAction
+attempts zero = []
+attempts (suc n) = attempt 0 ++ attempts n
+
+-- a word was found by the attempt at that place, with these actions before it and these behind it
+found_in_five : (place : ℕ) (part behind : List SpaceAction) → place ≤ length five_attempts
+    → five_attempts ≡ part ++ (attempt 0 ++ behind)
+    → driver_did five_run place ≡ part
+    → is_in 3 (stood five_run place).isolated ≡ true
+    → out_for (stood five_run place) 20 ≡ Some in_20
+    → slice_get five_attempts place ≡ Some (MoveLease (frame_no 0) (page_no 0))
+    → WasFoundAt five_run word_of_calls [] (block_no 3) five_attempts (frame_no 20) (page_no 0) taken_at_first place
+found_in_five place part behind inside parts done isolated out leased = record {
+  target = frame_no 0;
+  tried = record {
+    was_out = record { inside = inside; part = part; rest = attempt 0 ++ behind; parts = parts; done = done; isolated = isolated; out = out };
+    more = Return 0 (frame_no 0) ∷ behind;
+    next = refl;
+    leased = leased;
+  };
+  found = taken_word;
+}
+
+-- the five words, each of an attempt of its own, behind the one before
+five_found : AreFoundFrom five_run word_of_calls [] (block_no 3) five_attempts (frame_no 20) (page_no 0) 0 (replicate 5 taken_at_first)
+five_found =
+    let behind : ℕ → List SpaceAction = λ n. attempts n ++ undo 3 ∷ [] in
+    let before : ℕ → List SpaceAction = λ n. isolate 3 ∷ attempts n in (
+      1,
+      omega arith,
+      found_in_five 1 (before 0) (behind 4) (omega arith) refl refl refl refl refl,
+      refl,
+      (
+        3,
+        omega arith,
+        found_in_five 3 (before 1) (behind 3) (omega arith) refl refl refl refl refl,
+        refl,
+        (
+          5,
+          omega arith,
+          found_in_five 5 (before 2) (behind 2) (omega arith) refl refl refl refl refl,
+          refl,
+          (
+            7,
+            omega arith,
+            found_in_five 7 (before 3) (behind 1) (omega arith) refl refl refl refl refl,
+            refl,
+            (9, omega arith, found_in_five 9 (before 4) (behind 0) (omega arith) refl refl refl refl refl, refl, tt),
+          ),
+        ),
+      ),
+    )
 
 -- all have the bound 0
 level : (i d : ℕ) → i < 5 → get_or (replicate 5 0) i d ≡ 0
@@ -106,21 +184,8 @@ pub was_busy : IsTrueBy five_attempts busy
 was_busy = record {
   in_block = refl;
   holds = record {
-    was_out = (
-      1,
-      record {
-        inside = omega arith;
-        part = isolate 3 ∷ [];
-        rest = attempt 0 ++ (attempt 0 ++ (attempt 0 ++ (attempt 0 ++ (attempt 0 ++ undo 3 ∷ []))));
-        parts = refl;
-        done = refl;
-        isolated = refl;
-        out = refl;
-      },
-    );
     five = refl;
-    found = (taken_word, (taken_word, (taken_word, (taken_word, (taken_word, tt)))));
-    busy = (refl, (refl, (refl, (refl, (refl, tt)))));
+    found = five_found;
     rising = λ i j d up low. omega (arith, level i d (omega (arith, up, low)), level j d low);
   };
 }
@@ -177,18 +242,18 @@ not_out_in_21 (suc (suc (suc (suc (suc n))))) l = absurd (omega (arith, l))
 
 pub another_frame : ¬ IsTrueBy one_attempt (pinned_by 21 pinned_in_21)
 another_frame h =
-    let at = h.holds.was_out.1 in
-    let out : None ≡ Some _ = sym (not_out_in_21 h.holds.was_out.0 at.inside) ∙ at.out in
+    let at = h.holds.found.tried.was_out in
+    let out : None ≡ Some _ = sym (not_out_in_21 h.holds.place at.inside) ∙ at.out in
     cc
 
 pub another_block : ¬ IsCauseTrue (run_with Unmovable one_attempt) word_of_calls [] (block_no 2) one_attempt pinned
 another_block h = let inside : false ≡ true = h.in_block in absurd (cc)
 
 pub pinned_by_none : ¬ IsTrueBy one_attempt (pinned_by 20 pinned_at_first)
-pinned_by_none h = pin_of_none h.holds.found
+pinned_by_none h = pin_of_none h.holds.found.found
 
 pub busy_for_none : ¬ IsTrueBy five_attempts (busy_by (replicate 4 taken_at_first ++ taken_behind_all ∷ []))
-busy_for_none h = no_call_behind h.holds.found.1.1.1.1.0
+busy_for_none h = no_call_behind h.holds.found.4.4.4.4.2.found
 
 pub four : ¬ IsTrueBy five_attempts (busy_by (replicate 4 taken_at_first))
 four h = let five : 4 ≡ 5 = h.holds.five in absurd (omega (arith, five))
@@ -236,6 +301,38 @@ too_early h =
     let done = ap (λ (l : List SpaceAction). length l) h.holds.was_out.done in
     absurd (omega (arith, done))
 
+-- no target was leased
+none_leased : (place : ℕ) (target : FrameNo) (page : PageNo) → ¬ (slice_get not_leased place ≡ Some (MoveLease target page))
+none_leased zero target page is = absurd (cc)
+none_leased (suc zero) target page is = absurd (cc)
+none_leased (suc (suc n)) target page is = absurd (cc)
+
+pub not_tried : ¬ IsTrueBy not_leased pinned
+not_tried h = none_leased h.holds.place h.holds.found.target (page_no 0) h.holds.found.tried.leased
+
+-- a target was leased at one place alone
+leased_once : (place : ℕ) (target : FrameNo) (page : PageNo) → slice_get one_attempt place ≡ Some (MoveLease target page) → place ≡ 1
+leased_once zero target page is = absurd (cc)
+leased_once (suc zero) target page is = refl
+leased_once (suc (suc zero)) target page is = absurd (cc)
+leased_once (suc (suc (suc zero))) target page is = absurd (cc)
+leased_once (suc (suc (suc (suc n)))) target page is = absurd (cc)
+
+pub one_word : ¬ IsTrueBy one_attempt busy
+one_word h =
+    let first = h.holds.found in
+    let second = first.4 in
+    let first_place : first.0 ≡ 1 = leased_once first.0 first.2.target (page_no 0) first.2.tried.leased in
+    let second_place : second.0 ≡ 1 = leased_once second.0 second.2.target (page_no 0) second.2.tried.leased in
+    absurd (omega (arith, first_place, second_place, second.1))
+
+-- the first evacuation had leased a target
+pub second_not_found : ¬ IsCauseTrue (run_with Unmovable (one_attempt ++ one_attempt)) first_take one_attempt (block_no 3) one_attempt pinned
+second_not_found h =
+    let at = h.holds.found.tried.was_out in
+    let number : suc (targets_in at.part) ≡ 0 = sym (ap (λ (l : List SpaceAction). targets_in l) at.done) ∙ h.holds.found.found in
+    absurd (omega (arith, number))
+
 -- ---- the rows
 
 pub causes_of_small : CausesOfSmall
@@ -259,4 +356,8 @@ causes_of_small = record {
   behind_the_undo = was_undone;
   past_the_journal = past_all;
   in_an_earlier_evacuation = too_early;
+  without_an_attempt = not_tried;
+  five_words_of_one_attempt = one_word;
+  found_in_the_first_evacuation = first_found;
+  not_found_in_the_second = second_not_found;
 }

@@ -9,6 +9,7 @@ use Rattle.evac_model.specs.State.{PlainState, page_at}
 use Rattle.evac_words.specs.Word.{taken_bit, bound_of}
 use Rattle.core_state.specs.declared.noticed.Notice.{Notice}
 use Rattle.core_state.specs.NoticedHistory.{BoundByEntry, AnsweredSince, ShowsPage}
+use Rattle.host_work.specs.Truth.{Finds}
 
 -- the word as one that a take found; how much of the frame space's journal was known then doesn't count
 abbrev pub word_notice : PageNo → (word : ℕ) → Notice
@@ -27,3 +28,7 @@ pub record IsWordOf (s : Sizes) (start : PlainState) (entries : List Entry) (pag
   pub bound_low : bound_of word ≤ length entries
   pub free : taken_bit word ≡ 0 → ShowsPage word (page_before s start entries page word)
   pub taken : taken_bit word ≡ 1 → AnsweredSince entries (word_notice page word)
+
+-- the same, whichever take found the word
+abbrev pub AreWordsOf : Sizes → PlainState → List Entry → Finds
+AreWordsOf s start entries number page word = IsWordOf s start entries page word

@@ -1,6 +1,5 @@
--- When the cause of a failed evacuation is true of the frame space's journal, and of the words that were found for its page.
-use Rattle.std.specs.Prelude.{◌≡◌, ◌≤◌, ℕ, true, List, ◌++◌, length, map, take, Option, None, Some, ⊤}
-use Rattle.std.specs.List.{AllByRecursion}
+-- When the cause of a failed evacuation is true of the frame space's journal, and of the words that the driver's takes found.
+use Rattle.std.specs.Prelude.{◌≡◌, ◌≤◌, ℕ, suc, Bool, true, false, List, [], ◌∷◌, ◌++◌, length, map, filter, take, slice_get, Option, None, Some, ⊤}
 use Rattle.std.specs.List.Sorted.{IsNonDecreasing}
 use Rattle.evac_model.specs.declared.evacuation.EvacCause.{EvacCause}
 use Rattle.evac_model.specs.declared.evacuation.EvacCause.TheVariants.{Unmovable, Pinned, NoTarget, Busy}
@@ -10,6 +9,7 @@ use Rattle.evac_model.specs.declared.names.Kind.{Kind}
 use Rattle.evac_model.specs.declared.names.Kind.TheVariants as kinds
 use Rattle.evac_model.specs.declared.names.PageNo.{PageNo}
 use Rattle.evac_model.specs.declared.space.SpaceAction.{SpaceAction}
+use Rattle.evac_model.specs.declared.space.SpaceAction.TheVariants as space
 use Rattle.evac_model.specs.Geometry.{Sizes}
 use Rattle.evac_model.specs.Numbers.{is_in}
 use Rattle.evac_model.specs.Pairing.{actions_of}
@@ -34,9 +34,26 @@ stood r place = space_after r.sizes r.online r.start (take place r.journal)
 abbrev pub driver_did : SpaceRun → (place : ℕ) → List SpaceAction
 driver_did r place = actions_of 0 (take place r.journal)
 
--- what is said of an entry word that was found for a page
+-- ---- leases of targets, and the takes behind them
+
+abbrev pub is_target : SpaceAction → Bool
+is_target (space.MoveLease target page) = true
+is_target _ = false
+
+-- how many targets were leased
+abbrev pub targets_in : List SpaceAction → ℕ
+targets_in actions = length (filter is_target actions)
+
+-- The driver takes a page once for each target that it leases, and so its takes are numbered as these leases are, from 0. This is
+-- the number of the one for which a target is leased at that place.
+abbrev pub take_at : SpaceRun → (place : ℕ) → ℕ
+take_at r place = targets_in (driver_did r place)
+
+-- what is said of an entry word that the driver's take of that number found for a page
 abbrev pub Finds : Type 1
-Finds = PageNo → (word : ℕ) → Type 0
+Finds = (number : ℕ) → PageNo → (word : ℕ) → Type 0
+
+-- ---- attempts of an evacuation
 
 -- At that place, in the midst of what the evacuation did behind what the driver had done before, its block was isolated and the frame
 -- out for the page, as a movable one.
@@ -49,9 +66,18 @@ pub record WasOutAt (r : SpaceRun) (before : List SpaceAction) (b : BlockNo) (ow
   pub isolated : is_in b.0 (stood r place).isolated ≡ true
   pub out : out_for (stood r place) frame.0 ≡ Some (record { page = page.0; kind = kinds.Movable })
 
--- the same of some place
-abbrev pub WasOut : SpaceRun → (before : List SpaceAction) → BlockNo → (own : List SpaceAction) → FrameNo → PageNo → Type 0
-WasOut r before b own frame page = (place : ℕ) × WasOutAt r before b own frame page place
+-- There the evacuation leased that target for the page.
+pub record WasTriedAt (r : SpaceRun) (before : List SpaceAction) (b : BlockNo) (own : List SpaceAction) (frame : FrameNo) (page : PageNo) (target : FrameNo) (place : ℕ) : Type 0 where
+  pub was_out : WasOutAt r before b own frame page place
+  pub more : List SpaceAction
+  pub next : was_out.rest ≡ space.MoveLease target page ∷ more
+  pub leased : slice_get r.journal place ≡ Some (space.MoveLease target page)
+
+-- Behind that lease, the take that belongs to it found the word for the page.
+pub record WasFoundAt (r : SpaceRun) (finds : Finds) (before : List SpaceAction) (b : BlockNo) (own : List SpaceAction) (frame : FrameNo) (page : PageNo) (word place : ℕ) : Type 0 where
+  pub target : FrameNo
+  pub tried : WasTriedAt r before b own frame page target place
+  pub found : finds (take_at r place) page word
 
 -- ---- the causes
 
@@ -62,10 +88,10 @@ pub record UnmovableHolds (r : SpaceRun) (before : List SpaceAction) (frame : Fr
   pub done : driver_did r place ≡ before
   pub out : out_for (stood r place) frame.0 ≡ Some (record { page = page.0; kind = kinds.Unmovable })
 
--- the page was out in the frame, and the word was found for it, which says that it was pinned
+-- the word was found for the page in an attempt of the evacuation, and says that it was pinned
 pub record PinnedHolds (r : SpaceRun) (finds : Finds) (before : List SpaceAction) (b : BlockNo) (own : List SpaceAction) (frame : FrameNo) (page : PageNo) (word : ℕ) : Type 0 where
-  pub was_out : WasOut r before b own frame page
-  pub found : finds page word
+  pub place : ℕ
+  pub found : WasFoundAt r finds before b own frame page word place
   pub pinned : is_pinned word frame.0 ≡ true
 
 -- at that place the page was out in the frame, and no frame was free for it
@@ -73,13 +99,21 @@ pub record NoTargetHolds (r : SpaceRun) (before : List SpaceAction) (b : BlockNo
   pub was_out : WasOutAt r before b own frame page at
   pub none_free : (free : ℕ) → ¬ IsLeasable r.sizes r.online (stood r at) kinds.Movable free
 
--- the page was out in the frame, and five words were found for it, one a round, each of which says that it was busy; their bounds
--- don't fall
+-- Each word was found for the page in an attempt of its own, one behind the other, from that place of the journal on, and says that
+-- it was busy.
+abbrev pub AreFoundFrom : SpaceRun → Finds → (before : List SpaceAction) → BlockNo → (own : List SpaceAction) → FrameNo → PageNo → (from : ℕ) → (words : List ℕ) → Type 0
+AreFoundFrom r finds before b own frame page from [] = ⊤
+AreFoundFrom r finds before b own frame page from (word ∷ words) =
+    (place : ℕ)
+    × (from ≤ place)
+    × WasFoundAt r finds before b own frame page word place
+    × (is_busy word frame.0 ≡ true)
+    × AreFoundFrom r finds before b own frame page (suc place) words
+
+-- The page was busy in five attempts of the evacuation; the bounds of the words don't fall.
 pub record BusyHolds (r : SpaceRun) (finds : Finds) (before : List SpaceAction) (b : BlockNo) (own : List SpaceAction) (frame : FrameNo) (page : PageNo) (words : List ℕ) : Type 0 where
-  pub was_out : WasOut r before b own frame page
   pub five : length words ≡ 5
-  pub found : AllByRecursion (finds page) words
-  pub busy : AllByRecursion (λ word. is_busy word frame.0 ≡ true) words
+  pub found : AreFoundFrom r finds before b own frame page 0 words
   pub rising : IsNonDecreasing (map bound_of words)
 
 abbrev pub HoldsFor : SpaceRun → Finds → (before : List SpaceAction) → BlockNo → (own : List SpaceAction) → EvacCause → Type 0

@@ -1,5 +1,5 @@
 -- Causes of failed evacuations of a small machine that are true, and some that aren't, worked out by hand.
-use Rattle.std.specs.Prelude.{ℕ, List, [], ◌∷◌, ◌++◌, replicate, Some}
+use Rattle.std.specs.Prelude.{◌≡◌, ℕ, List, [], ◌∷◌, ◌++◌, replicate, Some}
 use Rattle.evac_model.specs.declared.call.Call.TheVariants.{Pin, Unpin}
 use Rattle.evac_model.specs.declared.entry.Entry.{Entry}
 use Rattle.evac_model.specs.declared.evacuation.EvacCause.{EvacCause}
@@ -14,7 +14,7 @@ use Rattle.evac_model.specs.SpaceJournal.{space_at_start}
 use Rattle.evac_model.specs.State.{start_state}
 use Rattle.evacuate.specs.Examples.{frame_no, page_no}
 use Rattle.host_work.specs.Examples.{plugged_machine, isolate, undo, offline, online, attempt, pinned, no_target, busy, unmovable}
-use Rattle.host_work.specs.FoundWords.{IsWordOf}
+use Rattle.host_work.specs.FoundWords.{AreWordsOf}
 use Rattle.host_work.specs.Requests.{block_no}
 use Rattle.host_work.specs.Truth.{SpaceRun, Finds, IsCauseTrue, by_truth}
 
@@ -30,9 +30,13 @@ run_with kind journal = record { sizes = plugged_machine; online = Unmovable; st
 abbrev pub pin_and_unpin : List Entry
 pin_and_unpin = entry 0 1 0 0 Pin Done ∷ entry 1 1 1 0 Unpin Done ∷ []
 
--- what those entries say of a word
+-- what those entries say of a word, whichever take found it
 abbrev pub word_of_calls : Finds
-word_of_calls = IsWordOf plugged_machine (start_state 2 (start_with Unmovable)) pin_and_unpin
+word_of_calls = AreWordsOf plugged_machine (start_state 2 (start_with Unmovable)) pin_and_unpin
+
+-- whatever the first take found, and nothing else
+abbrev pub first_take : Finds
+first_take number page word = number ≡ 0
 
 -- ---- what was done
 
@@ -110,9 +114,9 @@ pub record CausesOfSmall : Type 0 where
   pub unmovable_behind_an_emptied_block : by_truth (run_of_two Unmovable) word_of_calls block_3_emptied (block_no 2) (Some unmovable) []
   pub no_target_left : by_truth full_run word_of_calls [] (block_no 0) (Some (no_target_in_full 1)) full_actions
   -- a taken word that no later call of the page used, a pin that no call had made, and a word of another page
-  pub no_call_behind_it : ¬ word_of_calls (page_no 0) taken_behind_all
-  pub pin_of_no_call : ¬ word_of_calls (page_no 0) pinned_at_first
-  pub word_of_another_page : ¬ word_of_calls (page_no 1) pinned_behind_pin
+  pub no_call_behind_it : ¬ word_of_calls 0 (page_no 0) taken_behind_all
+  pub pin_of_no_call : ¬ word_of_calls 0 (page_no 0) pinned_at_first
+  pub word_of_another_page : ¬ word_of_calls 0 (page_no 1) pinned_behind_pin
   pub pinned_by_no_call : ¬ IsTrueBy one_attempt (pinned_by 20 pinned_at_first)
   -- the page was never out in that frame
   pub in_another_frame : ¬ IsTrueBy one_attempt (pinned_by 21 pinned_in_21)
@@ -129,3 +133,10 @@ pub record CausesOfSmall : Type 0 where
   pub past_the_journal : ¬ IsCauseTrue full_run word_of_calls [] (block_no 0) full_actions (no_target_in_full 3)
   -- the place is one of the evacuation before
   pub in_an_earlier_evacuation : ¬ IsCauseTrue (run_with Unmovable (one_attempt ++ not_leased)) word_of_calls one_attempt (block_no 3) not_leased no_target
+  -- no target was leased for the page, so that no take found a word for it
+  pub without_an_attempt : ¬ IsTrueBy not_leased pinned
+  -- one attempt finds one word
+  pub five_words_of_one_attempt : ¬ IsTrueBy one_attempt busy
+  -- the first evacuation found the word, and the second has the next take
+  pub found_in_the_first_evacuation : IsCauseTrue (run_with Unmovable (one_attempt ++ one_attempt)) first_take [] (block_no 3) one_attempt pinned
+  pub not_found_in_the_second : ¬ IsCauseTrue (run_with Unmovable (one_attempt ++ one_attempt)) first_take one_attempt (block_no 3) one_attempt pinned

@@ -24,7 +24,7 @@ ghost use Rattle.evac_model.specs.declared.tried.Tried.{Tried};
 ghost use Rattle.host_work.specs.Commands.{IsDoneBy, AreDoneBy};
 ghost use Rattle.host_work.specs.Evacuated.{WasEvacuated, by_tale};
 ghost use Rattle.host_work.specs.Examples.{CommandsOfSmall};
-ghost use Rattle.host_work.specs.FoundWords.{IsWordOf};
+ghost use Rattle.host_work.specs.FoundWords.{AreWordsOf};
 ghost use Rattle.host_work.specs.PlainCommands.{IsPlain, onlines_of, host_actions, host_lines, host_onlines};
 ghost use Rattle.host_work.specs.Truth.{SpaceRun, IsCauseTrue, by_truth};
 ghost use Rattle.host_work.specs.TruthExamples.{CausesOfSmall};
@@ -66,12 +66,12 @@ pub fn commands_of_a_small_machine()
 
 /// What commands did whose causes are true they did by tales of what they were told.
 pub fn what_is_done_by_truth_is_done_by_tale()
-    ensures { (r : SpaceRun) (s : Sizes) (start : PlainState) (entries : List Entry) (before : List SpaceAction) (d : DeviceState) (runs : List HostRun) (actions : List SpaceAction) (device : List DeviceAction) → AreDoneBy (by_truth r (IsWordOf s start entries)) before s d runs actions device → AreDoneBy (by_tale r.sizes) before s d runs actions device }
+    ensures { (r : SpaceRun) (s : Sizes) (start : PlainState) (entries : List Entry) (before : List SpaceAction) (d : DeviceState) (runs : List HostRun) (actions : List SpaceAction) (device : List DeviceAction) → AreDoneBy (by_truth r (AreWordsOf s start entries)) before s d runs actions device → AreDoneBy (by_tale r.sizes) before s d runs actions device }
 {}
 
 /// A cause that is true of a frame space's journal is true of each longer one.
 pub fn true_causes_stay_true()
-    ensures { (r : SpaceRun) (more : List SpaceAction) (s : Sizes) (start : PlainState) (entries : List Entry) (before : List SpaceAction) (b : BlockNo) (own : List SpaceAction) (cause : EvacCause) → IsCauseTrue r (IsWordOf s start entries) before b own cause → IsCauseTrue (record r { journal = r.journal ++ more }) (IsWordOf s start entries) before b own cause }
+    ensures { (r : SpaceRun) (more : List SpaceAction) (s : Sizes) (start : PlainState) (entries : List Entry) (before : List SpaceAction) (b : BlockNo) (own : List SpaceAction) (cause : EvacCause) → IsCauseTrue r (AreWordsOf s start entries) before b own cause → IsCauseTrue (record r { journal = r.journal ++ more }) (AreWordsOf s start entries) before b own cause }
 {}
 
 /// Causes of failed evacuations of a small machine, worked out by hand: true ones, and some that aren't.

@@ -36,7 +36,7 @@ use Rattle.core_state.proofs.Starts.{length-start_pages}
 use Rattle.core_state.proofs.Entries.{page_after-quiet}
 use Rattle.core_state.proofs.Histories.{from_opening, histories_are_legal, words_show_the_history}
 use Rattle.host_work.specs.Commands.{AreDoneBy}
-use Rattle.host_work.specs.FoundWords.{IsWordOf}
+use Rattle.host_work.specs.FoundWords.{AreWordsOf}
 use Rattle.host_work.specs.Requests.{Evacuates}
 use Rattle.host_work.specs.Truth.{Finds, by_truth}
 use Rattle.host_work.proofs.TruthGrows.{Follows, truth_found, are_done_by}
@@ -57,7 +57,7 @@ use Rattle.replay.proofs.EndHost.{all_commands, all_numbers, all_done}
 use Rattle.replay.proofs.EndedOwners.{let_go}
 use Rattle.replay.proofs.EndFrames.{frames_at_end, unplugged_at_end}
 use Rattle.replay.proofs.Members.{there, all_at, get_or_at, numbered_at}
-use Rattle.replay.proofs.WordsTold.{opens_with, is_word_of}
+use Rattle.replay.proofs.WordsTold.{opens_with, are_words_of}
 
 -- ---- pages as the words show them
 
@@ -158,7 +158,7 @@ module _ (s : Scenario) (m : Running) (r : Report) (run : IsRunnable s) (k : IsK
 
   -- what an evacuation may have done: by the frame space and the words of the run, and by those reported
   abbrev words_told : Finds
-  words_told = IsWordOf s.geometry (plain_start s) r.history
+  words_told = AreWordsOf s.geometry (plain_start s) r.history
 
   abbrev truth_told : Evacuates
   truth_told = by_truth (space_told s r) words_told
@@ -166,7 +166,7 @@ module _ (s : Scenario) (m : Running) (r : Report) (run : IsRunnable s) (k : IsK
   follows : Follows (truth (setting s) m.world) truth_told
   follows =
       subst (λ (journal : List SpaceAction). Follows (truth (setting s) m.world) (by_truth (record { sizes = s.geometry; online = online_of s; start = space_at_start s.geometry s.start; journal = journal }) words_told)) (sym rep.space)
-      (truth_found (space_run (setting s) m.world) (DriverFound m.world) words_told (is_word_of s m r run k ended rep))
+      (truth_found (space_run (setting s) m.world) (DriverFound m.world) words_told (are_words_of s m r run k ended rep))
 
   pub did_in_run : AreDoneBy (truth (setting s) m.world) [] s.geometry (device_start s) r.host (actions_of 0 r.space_journal) r.device_journal
   did_in_run =

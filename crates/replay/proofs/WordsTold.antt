@@ -17,7 +17,7 @@ use Rattle.core_state.specs.Views.{Has, view_of}
 use Rattle.core_state.proofs.CoreRooms.{start_pages_plain}
 use Rattle.core_state.proofs.NoticedHistory.{noticed_words_tell_the_history, taken_words_are_followed}
 use Rattle.core_state.proofs.Rooms.{seat_has}
-use Rattle.host_work.specs.FoundWords.{word_notice, IsWordOf}
+use Rattle.host_work.specs.FoundWords.{word_notice, AreWordsOf}
 use Rattle.core_actors.specs.HostFound.{DriverFound}
 use Rattle.report.specs.declared.report.Report.{Report}
 use Rattle.report.specs.ReportOf.{plain_start}
@@ -34,18 +34,18 @@ module _ (s : Scenario) (m : Running) (r : Report) (run : IsRunnable s) (k : IsK
   driver_there : Has m.world.snapshot.views 0 (view_of m.world.snapshot.views 0)
   driver_there = seat_has m.world.snapshot.views 0 (let seats = k.world.seats in omega arith)
 
-  module _ (page : PageNo) (word : ℕ) (found : DriverFound m.world page word) where
+  module _ (number : ℕ) (page : PageNo) (word : ℕ) (found : DriverFound m.world number page word) where
     -- the notice of the take
     abbrev c : Notice
     c = record { page = page; word = word; known = found.0 }
 
     tells : TellsHistory (opening s) (plain_start s) r.history c
     tells = noticed_words_tell_the_history (opening s) m.world.snapshot.words m.world.snapshot.views (plain_start s) r.history 0 (view_of m.world.snapshot.views 0) c
-        k.world.sound (opens_with s run) rep.history driver_there (inl found.1)
+        k.world.sound (opens_with s run) rep.history driver_there (inl (number, found.1))
 
     followed : taken_bit word ≡ 1 → AnsweredSince r.history c
     followed taken = taken_words_are_followed (opening s) m.world.snapshot.words m.world.snapshot.views r.history 0 (view_of m.world.snapshot.views 0) c
-        k.world.sound rep.history (let_go s m k ended) driver_there found.1 taken
+        k.world.sound rep.history (let_go s m k ended) driver_there (number, found.1) taken
 
     -- at the start all bounds are 0, and so is the first ticket
     no_bound : slice_index (opening s).bounds page.0 ≡ 0
@@ -61,8 +61,8 @@ module _ (s : Scenario) (m : Running) (r : Report) (run : IsRunnable s) (k : IsK
     answered a = record { place = a.place; entry = a.entry; at = a.at; on = a.on; late = a.late }
 
     -- a word that a take of the driver's found is one of the history reported
-    pub is_word_of : IsWordOf s.geometry (plain_start s) r.history page word
-    is_word_of = record {
+    pub are_words_of : AreWordsOf s.geometry (plain_start s) r.history number page word
+    are_words_of = record {
       in_range = tells.in_range;
       bound_is = ⊎_elim (λ first. inl (first ∙ no_bound)) (λ b. inr (bound_by b)) tells.bound_is;
       bound_low = let low = tells.bound_low in omega arith;

@@ -93,8 +93,8 @@ pub record IsReportAfter (s : Scenario) (m : Running) (r : Report) : Type 0 wher
   pub plugged : r.plugged ≡ block_list (device_at s.geometry m.world.device).plugged
   pub pages : r.pages ≡ shown_below (opening s) m.world.snapshot.words s.geometry.pages
 
--- The report is that of the scheduled run. The cause of each evacuation that failed is true of the run: the words that it names are
--- ones that the driver's takes found.
+-- The report is that of the scheduled run. The cause of each evacuation that failed is true of the run: the words that it names were
+-- found by the takes with the numbers of its own leases of targets.
 pub record IsReportOfRun (s : Scenario) (r : Report) : Type 0 where
   pub running : Running
   pub run : IsScheduledRun s running

@@ -14,7 +14,7 @@ use Rattle.evac_model.specs.Scripts.{IsOfScripts}
 use Rattle.evac_model.specs.SpaceJournal.{SpaceState, out_for, is_frame_in, space_after, space_at_start}
 use Rattle.evac_model.specs.State.{PlainState, start_state}
 use Rattle.host_work.specs.Commands.{AreDoneBy}
-use Rattle.host_work.specs.FoundWords.{IsWordOf}
+use Rattle.host_work.specs.FoundWords.{AreWordsOf}
 use Rattle.host_work.specs.Truth.{SpaceRun, by_truth}
 use Rattle.report.specs.declared.report.Report.{Report}
 use Rattle.report.specs.FinalPages.{pages_state}
@@ -71,7 +71,7 @@ pub record AreFramesTold (s : Scenario) (r : Report) : Type 0 where
 pub record AreHostAndDeviceTold (s : Scenario) (r : Report) : Type 0 where
   pub commands : map (λ x. x.command) r.host ≡ s.host
   pub numbers : map (λ x. x.line.no) r.host ≡ range_with_len 0 (length s.host)
-  pub did : AreDoneBy (by_truth (space_told s r) (IsWordOf s.geometry (plain_start s) r.history)) [] s.geometry (device_start s) r.host (actions_of 0 r.space_journal) r.device_journal
+  pub did : AreDoneBy (by_truth (space_told s r) (AreWordsOf s.geometry (plain_start s) r.history)) [] s.geometry (device_start s) r.host (actions_of 0 r.space_journal) r.device_journal
   pub answered : AreAnswered s.geometry (device_start s) (first_of_calls s.fails) r.device_journal
   pub no_notices : AllByRecursion (λ a. a.notices ≡ []) r.device_journal
   pub plugged : r.plugged ≡ block_list (device_reported s r).plugged
