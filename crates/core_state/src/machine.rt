@@ -82,18 +82,18 @@ impl Core {
     /// allowed; a take by the right to move the page uses the room for one notice. It takes no memory.
     /// Its time doesn't grow with frames, pages, entries or words: a take fills the places for the
     /// cells of one page, and a store or a mark looks through the frames that the seat has unmarked.
-    pub fn step(&mut self, seat: u32, step: Step) -> Seen
+    pub fn step(&mut self, seat: u32, step: &Step) -> Seen
         requires seat { seat < length self.old.snapshot.views }
         requires sound { IsSound self.old }
-        requires may { Allowed self.old.opening (view_of self.old.snapshot.views seat) step }
-        requires room { notices_of (view_of self.old.snapshot.views seat) step ≤ self.old.room }
-        ensures seen { result ≡ seen_by step (word_found self.old.opening self.old.snapshot.words (view_of self.old.snapshot.views seat) step) }
-        ensures snapshot { self.new.snapshot ≡ snapshot_after OneOwner self.old.opening self.old.snapshot seat step }
+        requires may { Allowed self.old.opening (view_of self.old.snapshot.views seat) step.now }
+        requires room { notices_of (view_of self.old.snapshot.views seat) step.now ≤ self.old.room }
+        ensures seen { result ≡ seen_by step.now (word_found self.old.opening self.old.snapshot.words (view_of self.old.snapshot.views seat) step.now) }
+        ensures snapshot { self.new.snapshot ≡ snapshot_after OneOwner self.old.opening self.old.snapshot seat step.now }
         ensures sound { IsSound self.new }
         ensures opening { self.new.opening ≡ self.old.opening }
-        ensures room { self.new.room + notices_of (view_of self.old.snapshot.views seat) step ≡ self.old.room }
+        ensures room { self.new.room + notices_of (view_of self.old.snapshot.views seat) step.now ≡ self.old.room }
     {
-        self.kept.step(seat as usize, &step)
+        self.kept.step(seat as usize, step)
     }
 
     /// Makes a step of a seat on the mapping of the page that it holds. The step is allowed. It takes no
@@ -145,13 +145,13 @@ impl Core {
 
     /// Whether the step is one that the seat may make now. It takes no memory; a release looks once at
     /// each cell of a page, any other step at none.
-    pub fn allows(&self, seat: u32, step: Step) -> bool
+    pub fn allows(&self, seat: u32, step: &Step) -> bool
         requires seat { seat < length self.now.snapshot.views }
         requires sound { IsSound self.now }
-        ensures { IsTrue result ↔ Allowed self.now.opening (view_of self.now.snapshot.views seat) step }
+        ensures { IsTrue result ↔ Allowed self.now.opening (view_of self.now.snapshot.views seat) step.now }
     {
         let view = &self.kept.snapshot.views.as_slice()[seat as usize];
-        is_allowed(&self.kept.opening, view, &step)
+        is_allowed(&self.kept.opening, view, step)
     }
 
     /// Makes room for one more notice of a take by the right to move, as the driver's are.

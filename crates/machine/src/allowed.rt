@@ -140,7 +140,7 @@ fn may_step(parts: &Parts, seat: u32, step: &Step) -> bool
     requires is { IsMachine parts.now }
     ensures { IsTrue result ↔ MayStep (setting_of parts.now) seat (world_of parts.now) step.now }
 {
-    is_actor(parts, seat) && parts.core.allows(seat, *step)
+    is_actor(parts, seat) && parts.core.allows(seat, step)
 }
 
 /// Whether it is a step of the driver or of an owner on the mapping of the page that it holds.

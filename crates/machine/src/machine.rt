@@ -66,7 +66,7 @@ impl Machine {
         ensures memory { OnErr result (TakesMemory seat action.now) }
     {
         match action {
-            Action::Step(at) => step(&mut self.parts, seat, *at),
+            Action::Step(at) => step(&mut self.parts, seat, at),
             Action::Move(at) => Ok(change_mapping(&mut self.parts, seat, *at)),
             Action::Space(SpaceCall::Lease { page, kind }) => {
                 lease(&mut self.parts, seat, *page, *kind)

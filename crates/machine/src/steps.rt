@@ -29,16 +29,16 @@ fn make_room(core: &mut Core, seat: u32, step: &Step) -> Result<(), OutOfMemory>
 
 /// A step of the driver or of an owner on a word. Where there is no memory for the notice of a take by the driver,
 /// nothing changes.
-pub(crate) fn step(parts: &mut Parts, seat: u32, step: Step) -> Result<Heard, OutOfMemory>
+pub(crate) fn step(parts: &mut Parts, seat: u32, step: &Step) -> Result<Heard, OutOfMemory>
     requires is { IsMachine parts.old }
-    requires may { MayStep (setting_of parts.old) seat (world_of parts.old) step }
-    ensures made { IfOk result (λ heard. made_of parts.new heard ≡ step_made (setting_of parts.old) seat (world_of parts.old) step) }
+    requires may { MayStep (setting_of parts.old) seat (world_of parts.old) step.now }
+    ensures made { IfOk result (λ heard. made_of parts.new heard ≡ step_made (setting_of parts.old) seat (world_of parts.old) step.now) }
     ensures is { IsMachine parts.new }
     ensures setting { setting_of parts.new ≡ setting_of parts.old }
     ensures err { OnErr result (state_of parts.new ≡ state_of parts.old) }
-    ensures memory { OnErr result (StepTakesMemory seat step) }
+    ensures memory { OnErr result (StepTakesMemory seat step.now) }
 {
-    make_room(&mut parts.core, seat, &step)?;
+    make_room(&mut parts.core, seat, step)?;
     match parts.core.step(seat, step) {
         Seen::Word(word) => Ok(Heard::Word(word)),
         Seen::Nothing => Ok(Heard::Nothing),

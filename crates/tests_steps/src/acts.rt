@@ -48,10 +48,10 @@ fn make_step(core: &mut Core, seat: u32, step: &Step) -> Option<Seen>
     requires room { 1 ≤ core.old.room }
     ensures sound { IsSound core.new }
 {
-    if !is_seat(core, seat) || !core.allows(seat, *step) {
+    if !is_seat(core, seat) || !core.allows(seat, step) {
         return None;
     }
-    Some(core.step(seat, *step))
+    Some(core.step(seat, step))
 }
 
 /// Makes a step on a mapping, where it is allowed.
@@ -99,7 +99,7 @@ pub fn allows(core: &Core, act: Act) -> bool
     requires { IsSound core.now }
 {
     match act {
-        Act::Step { seat, step } => is_seat(core, seat) && core.allows(seat, step),
+        Act::Step { seat, step } => is_seat(core, seat) && core.allows(seat, &step),
         Act::Move { seat, step } => is_seat(core, seat) && may_move(core, seat, step),
         Act::Give { from, to, frame } => {
             is_seat(core, from)

@@ -44,27 +44,27 @@ module _ (a : Parts) (core : CoreState) (seat : ℕ) (step : Step) (opening : co
     stepped_machine same = machine_stepped b after seat step same stepped still_machine still_may
 
 pub make_room-requires : goal.make_room-requires
-make_room-requires c = record { none = needs_no_room _ _ c.args.seat c.requires.is.consistent c.requires.may.actor c.args.step }
+make_room-requires c = record { none = needs_no_room _ _ c.args.seat c.requires.is.consistent c.requires.may.actor c.args.step.now }
 
 pub step-requires-clause-seat : goal.step-requires-clause-seat
-step-requires-clause-seat c = still_there c.args.parts.now c.make_room.new.core c.args.seat c.args.step c.make_room.ensures.opening c.make_room.ensures.snapshot c.requires.is c.requires.may
+step-requires-clause-seat c = still_there c.args.parts.now c.make_room.new.core c.args.seat c.args.step.now c.make_room.ensures.opening c.make_room.ensures.snapshot c.requires.is c.requires.may
 
 pub returns-in-Word-clause-made : goal.returns-in-Word-clause-made
 returns-in-Word-clause-made c =
-    stepped_made c.args.parts.now c.make_room.new.core c.args.seat c.args.step c.make_room.ensures.opening c.make_room.ensures.snapshot c.requires.is c.requires.may
-    c.step.new.self c.step.ensures.snapshot _ (heard_word c.args.step _ _ (sym c.step.ensures.seen ∙ c.in-Word.is))
+    stepped_made c.args.parts.now c.make_room.new.core c.args.seat c.args.step.now c.make_room.ensures.opening c.make_room.ensures.snapshot c.requires.is c.requires.may
+    c.step.new.self c.step.ensures.snapshot _ (heard_word c.args.step.now _ _ (sym c.step.ensures.seen ∙ c.in-Word.is))
 
 pub returns-in-Word-clause-is : goal.returns-in-Word-clause-is
 returns-in-Word-clause-is c =
-    stepped_machine c.args.parts.now c.make_room.new.core c.args.seat c.args.step c.make_room.ensures.opening c.make_room.ensures.snapshot c.requires.is c.requires.may
+    stepped_machine c.args.parts.now c.make_room.new.core c.args.seat c.args.step.now c.make_room.ensures.opening c.make_room.ensures.snapshot c.requires.is c.requires.may
     c.step.new.self c.step.ensures.snapshot c.step.ensures.opening
 
 pub returns-in-Nothing-clause-made : goal.returns-in-Nothing-clause-made
 returns-in-Nothing-clause-made c =
-    stepped_made c.args.parts.now c.make_room.new.core c.args.seat c.args.step c.make_room.ensures.opening c.make_room.ensures.snapshot c.requires.is c.requires.may
-    c.step.new.self c.step.ensures.snapshot _ (heard_nothing c.args.step _ (sym c.step.ensures.seen ∙ c.in-Nothing.is))
+    stepped_made c.args.parts.now c.make_room.new.core c.args.seat c.args.step.now c.make_room.ensures.opening c.make_room.ensures.snapshot c.requires.is c.requires.may
+    c.step.new.self c.step.ensures.snapshot _ (heard_nothing c.args.step.now _ (sym c.step.ensures.seen ∙ c.in-Nothing.is))
 
 pub returns-in-Nothing-clause-is : goal.returns-in-Nothing-clause-is
 returns-in-Nothing-clause-is c =
-    stepped_machine c.args.parts.now c.make_room.new.core c.args.seat c.args.step c.make_room.ensures.opening c.make_room.ensures.snapshot c.requires.is c.requires.may
+    stepped_machine c.args.parts.now c.make_room.new.core c.args.seat c.args.step.now c.make_room.ensures.opening c.make_room.ensures.snapshot c.requires.is c.requires.may
     c.step.new.self c.step.ensures.snapshot c.step.ensures.opening
