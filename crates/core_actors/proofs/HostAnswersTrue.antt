@@ -1,14 +1,15 @@
 -- What an evacuation was told stays true with each answer to it, where that answer is true.
 use Rattle.std.specs.Prelude.{⊤}
-use Rattle.std.proofs.Common.{◌≡◌, ℕ, suc, ◌+◌, Bool, true, false, nat_lt, if◌then◌else◌, List, [], ◌∷◌, ◌++◌, length, take, append_assoc, append-nil, length-append, le_refl, refl, sym, ap, ◌∙◌, subst, arith, Option, Some, None}
+use Rattle.std.proofs.Common.{◌≡◌, ℕ, suc, ◌+◌, ◌≤◌, Bool, true, false, nat_lt, if◌then◌else◌, List, [], ◌∷◌, ◌++◌, length, take, append_assoc, append-nil, le_refl, refl, sym, ap, ◌∙◌, subst, arith, Option, Some, None}
 use Rattle.std.specs.List.{slice_get}
 use Rattle.std.specs.Option.{option_or}
 use Rattle.std.proofs.lemmas.Bool.{false≢true}
-use Rattle.std.proofs.lemmas.Option.{none-some, same_Some}
+use Rattle.std.proofs.lemmas.Option.{none-some, same_Some, slice_get_within}
 use Rattle.std.proofs.Math.Seq.{take-append_seam}
 use Rattle.evac_model.specs.declared.evacuation.EvacCause.{EvacCause}
 use Rattle.evac_model.specs.declared.evacuation.EvacCause.TheVariants as cause
 use Rattle.evac_model.specs.declared.evacuation.MoveLease.{MoveLease}
+use Rattle.evac_model.specs.declared.names.BlockNo.{BlockNo}
 use Rattle.evac_model.specs.declared.names.FrameNo.{FrameNo}
 use Rattle.evac_model.specs.declared.names.Kind.TheVariants.{Movable, Unmovable}
 use Rattle.evac_model.specs.declared.names.PageNo.{PageNo}
@@ -29,12 +30,12 @@ use Rattle.evacuate.specs.Tale.{Tale, is_repeated}
 use Rattle.evacuate.specs.UnderWay.{GoesBy, LeasedWasBusy, tale_at, tale_after, GoesOnBy}
 use Rattle.evacuate.proofs.Steps.{goes_on}
 use Rattle.host_work.specs.Evacuated.{space_action}
-use Rattle.host_work.specs.Truth.{stood, driver_did, targets_in, take_at, WasOutAt, NoTargetHolds, IsCauseTrue}
-use Rattle.host_work.proofs.TruthGrows.{targets_append}
+use Rattle.host_work.specs.Truth.{stood, driver_did, targets_in, take_number_at, WasOutAt, NoTargetHolds, IsCauseTrue, IsFoundBehind, IsTrueAttempt, AreTrueRounds}
+use Rattle.host_work.proofs.TruthGrows.{targets_append, attempts_later}
 use Rattle.machine.specs.World.{Setting, World, space_now}
-use Rattle.core_actors.specs.HostFound.{space_run, DriverFound, evacuation_did, IsFoundBehind, IsTrueAttempt, AreTrueRounds, IsTrueAt, HasToldTrue, IsFoundLast}
+use Rattle.core_actors.specs.HostFound.{space_run, DriverFound, evacuation_did, IsTrueAt, HasToldTrue, IsFoundLast}
 use Rattle.core_actors.proofs.HostMakes.{did_more}
-use Rattle.core_actors.proofs.HostRoundsTrue.{longer_adds, take_adds, cause_adds, lease_adds, attempt_adds, rounds_adds, busy_true}
+use Rattle.core_actors.proofs.HostRoundsTrue.{longer_adds, take_adds, cause_adds, tried_adds, attempt_adds, rounds_adds, busy_true}
 use Rattle.core_actors.proofs.HostTales.{standing}
 use Rattle.core_actors.proofs.HostTruths.{Adds}
 
@@ -98,8 +99,8 @@ module _ (c : Setting) (w x : World) (e : Evacuating) (t : Tale) (adds : Adds c 
     cause_still : (why : EvacCause) → IsCauseTrue (space_run c w) (DriverFound w) before e.block own why → IsCauseTrue (space_run c x) (DriverFound x) before e.block now why
     cause_still why is = cause_adds c w x adds before e.block own more now m.log why is
 
-    abbrev rounds_still : AreTrueRounds (space_run c x) (DriverFound x) before e.block now (length x.space) (t.attempts ∷ t.rounds)
-    rounds_still = rounds_adds c w x adds before e.block own more now m.log (length w.space) (length x.space) (longer_adds c w x adds) (t.attempts ∷ t.rounds) m.told.rounds
+    rounds_still : AreTrueRounds (space_run c x) (DriverFound x) before e.block now m.told.end (t.attempts ∷ t.rounds)
+    rounds_still = rounds_adds c w x adds before e.block own more now m.log m.told.end (t.attempts ∷ t.rounds) m.told.rounds
 
     -- the page was out in the frame right before the action
     abbrev out_there : (frame : FrameNo) (page : PageNo) → is_in e.block.0 (space_now c w).isolated ≡ true → out_for (space_now c w) frame.0 ≡ Some (record { page = page.0; kind = Movable }) → WasOutAt (space_run c x) before e.block now frame page (length w.space)
@@ -113,9 +114,15 @@ module _ (c : Setting) (w x : World) (e : Evacuating) (t : Tale) (adds : Adds c 
       out = ap (λ (st : SpaceState). out_for st frame.0) stood_there ∙ out;
     }
 
-    told_on : (rounds : AreTrueRounds (space_run c x) (DriverFound x) before after.block now (length x.space) (next.attempts ∷ next.rounds))
-        → IsTrueAt (space_run c x) (DriverFound x) before after.block now next.rounds rounds.0 after.stage → HasToldTrue c x after next
-    told_on rounds at = record { before = before; did = did_now; rounds = rounds; stage = at }
+    -- the attempts that count now were made before that place
+    told_to : (end : ℕ) → end ≤ length x.space → AreTrueRounds (space_run c x) (DriverFound x) before after.block now end (next.attempts ∷ next.rounds)
+        → IsTrueAt (space_run c x) (DriverFound x) before after.block now next.rounds end after.stage → HasToldTrue c x after next
+    told_to end inside rounds at = record { before = before; did = did_now; end = end; inside = inside; rounds = rounds; stage = at }
+
+    -- where no attempt more counts
+    told_on : AreTrueRounds (space_run c x) (DriverFound x) before after.block now m.told.end (next.attempts ∷ next.rounds)
+        → IsTrueAt (space_run c x) (DriverFound x) before after.block now next.rounds m.told.end after.stage → HasToldTrue c x after next
+    told_on rounds at = told_to m.told.end (omega (arith, m.told.inside, longer_adds c w x adds)) rounds at
 
   in_sizes : (frame : FrameNo) → is_frame_of e.sizes e.block.0 frame.0 ≡ true → is_frame_of c.sizes e.block.0 frame.0 ≡ true
   in_sizes frame its = subst (λ (s : Sizes). is_frame_of s e.block.0 frame.0 ≡ true) sizes its
@@ -137,9 +144,9 @@ module _ (c : Setting) (w x : World) (e : Evacuating) (t : Tale) (adds : Adds c 
   -- ---- a target was leased
 
   -- the take for it is the next one
-  next_take : (lease : MoveLease) → actions_of 0 x.space ≡ actions_of 0 w.space ++ space.MoveLease lease.target lease.page ∷ [] → suc (take_at (space_run c x) (length w.space)) ≡ targets_in (actions_of 0 x.space)
+  next_take : (lease : MoveLease) → actions_of 0 x.space ≡ actions_of 0 w.space ++ space.MoveLease lease.target lease.page ∷ [] → suc (take_number_at (space_run c x) (length w.space)) ≡ targets_in (actions_of 0 x.space)
   next_take lease made =
-      let here : take_at (space_run c x) (length w.space) ≡ targets_in (actions_of 0 w.space) = ap (λ (l : List SpaceAction). targets_in l) did_there in
+      let here : take_number_at (space_run c x) (length w.space) ≡ targets_in (actions_of 0 w.space) = ap (λ (l : List SpaceAction). targets_in l) did_there in
       let one : targets_in (actions_of 0 x.space) ≡ targets_in (actions_of 0 w.space) + 1 =
       ap (λ (l : List SpaceAction). targets_in l) made ∙ targets_append (actions_of 0 w.space) (space.MoveLease lease.target lease.page ∷ []) in
       omega (arith, here, one)
@@ -148,18 +155,14 @@ module _ (c : Setting) (w x : World) (e : Evacuating) (t : Tale) (adds : Adds c 
       → HasToldTrue c x (standing e (Moving lease)) t
   leased after lease is m =
       let action : SpaceAction = space.MoveLease lease.target lease.page in
-      let longer : length x.space ≡ length w.space + 1 = ap (λ (j : List SpaceAction). length j) is.2 ∙ length-append w.space (action ∷ []) in
       told_on m (rounds_still m) (record {
-        at = record {
-          place = length w.space;
-          begun = m.told.rounds.1;
-          ended = omega (arith, longer);
-          tried = record {
-            was_out = out_there m lease.from lease.page is.0 is.1;
-            more = [];
-            next = refl;
-            leased = ap (λ (j : List SpaceAction). slice_get j (length w.space)) is.2 ∙ at_last w.space action;
-          };
+        place = length w.space;
+        behind = m.told.inside;
+        tried = record {
+          was_out = out_there m lease.from lease.page is.0 is.1;
+          more = [];
+          next = refl;
+          leased = ap (λ (j : List SpaceAction). slice_get j (length w.space)) is.2 ∙ at_last w.space action;
         };
         last = next_take lease m.made ∙ ap (λ (l : List SpaceAction). targets_in l) (did_now m);
       })
@@ -183,49 +186,53 @@ module _ (c : Setting) (w x : World) (e : Evacuating) (t : Tale) (adds : Adds c 
   over repeated = if repeated then record { rounds = t.attempts ∷ t.rounds; attempts = [] } else t
 
   -- a new round begins behind all that was done
-  rounds_over : (done mine : List SpaceAction) (repeated : Bool) → AreTrueRounds (space_run c x) (DriverFound x) done e.block mine (length x.space) (t.attempts ∷ t.rounds)
-      → AreTrueRounds (space_run c x) (DriverFound x) done e.block mine (length x.space) ((over repeated).attempts ∷ (over repeated).rounds)
-  rounds_over done mine true all = (length x.space, le_refl (length x.space), tt, all)
-  rounds_over done mine false all = all
+  rounds_over : (done mine : List SpaceAction) (end : ℕ) (repeated : Bool) → AreTrueRounds (space_run c x) (DriverFound x) done e.block mine end (t.attempts ∷ t.rounds)
+      → AreTrueRounds (space_run c x) (DriverFound x) done e.block mine end ((over repeated).attempts ∷ (over repeated).rounds)
+  rounds_over done mine end true all = (end, le_refl end, all)
+  rounds_over done mine end false all = all
 
   abbrev next_round : Evacuating
   next_round = record e { stage = Leasing None; round = e.round + 1; busy = None }
 
   given_up : (frame : Option FrameNo) (lease : MoveLease) (repeated : Bool) → IsTold c w x e t (Leasing frame) seen.NoneLeft (standing e (Undoing (busy_cause e lease))) (over repeated) → HasToldTrue c x (standing e (Undoing (busy_cause e lease))) (over repeated)
   given_up frame lease repeated m =
-      let all = rounds_over m.told.before (now m) repeated (rounds_still m) in
+      let all = rounds_over m.told.before (now m) m.told.end repeated (rounds_still m) in
       told_on m all (record {
         in_block = in_sizes lease.from m.goes_by.stands.in_block;
-        holds = busy_true (space_run c x) (DriverFound x) m.told.before e.block (now m) lease.from lease.page (over repeated) _ (length x.space) m.goes_by.stands.found all;
+        holds = busy_true (space_run c x) (DriverFound x) m.told.before e.block (now m) lease.from lease.page (over repeated) _ m.told.end m.goes_by.stands.found all;
       })
 
   with_busy : (frame : Option FrameNo) (lease : MoveLease) (fewer repeated : Bool)
       → IsTold c w x e t (Leasing frame) seen.NoneLeft (if fewer then next_round else standing e (Undoing (busy_cause e lease))) (over repeated)
       → HasToldTrue c x (if fewer then next_round else standing e (Undoing (busy_cause e lease))) (over repeated)
-  with_busy frame lease true repeated m = told_on m (rounds_over m.told.before (now m) repeated (rounds_still m)) tt
+  with_busy frame lease true repeated m = told_on m (rounds_over m.told.before (now m) m.told.end repeated (rounds_still m)) tt
   with_busy frame lease false repeated m = given_up frame lease repeated m
 
   round_done : (frame : Option FrameNo) (busy : Option MoveLease) (repeated : Bool) → IsTold c w x e t (Leasing frame) seen.NoneLeft (round_ended e busy) (over repeated) → HasToldTrue c x (round_ended e busy) (over repeated)
-  round_done frame None repeated m = told_on m (rounds_over m.told.before (now m) repeated (rounds_still m)) tt
+  round_done frame None repeated m = told_on m (rounds_over m.told.before (now m) m.told.end repeated (rounds_still m)) tt
   round_done frame (Some lease) repeated m = with_busy frame lease (nat_lt e.round 4) repeated m
 
   -- ---- a page was moved, or not
 
   -- the take of the last lease of a target is the one for the page
   its_word : (lease : MoveLease) (what : EvacSeen) {after : Evacuating} {next : Tale} (m : IsTold c w x e t (Moving lease) what after next) (word : ℕ) → IsFoundLast x t.rounds lease.page word
-      → IsFoundBehind (DriverFound x) (take_at (space_run c x) m.told.stage.at.place) t.rounds lease.page word
+      → IsFoundBehind (DriverFound x) (take_number_at (space_run c x) m.told.stage.place) t.rounds lease.page word
   its_word lease what m word is =
-      let at = m.told.stage.at in
+      let at = m.told.stage in
       let none_more : actions_of 0 x.space ≡ m.told.before ++ own m = m.made ∙ (append-nil (actions_of 0 w.space) ∙ m.told.did) in
-      let same : suc is.number ≡ suc (take_at (space_run c x) at.place) =
+      let same : suc is.number ≡ suc (take_number_at (space_run c x) at.place) =
       is.last ∙ (ap (λ (l : List SpaceAction). targets_in l) none_more ∙ sym (ap suc (take_adds c w x adds at.place at.tried.was_out.inside) ∙ m.told.stage.last)) in
       subst (λ (n : ℕ). IsFoundBehind (DriverFound x) n t.rounds lease.page word) (omega (arith, same)) is.behind
 
   came : (lease : MoveLease) (found : Option ℕ) (what : EvacSeen) → ((word : ℕ) → found ≡ Some word → IsFoundLast x t.rounds lease.page word)
       → IsTold c w x e t (Moving lease) what (standing e (Returning (record { lease = lease; found = found }))) t → HasToldTrue c x (standing e (Returning (record { lease = lease; found = found }))) t
   came lease found what is m = told_on m (rounds_still m) (record {
-    leased = lease_adds c w x adds m.told.before e.block (own m) (more m) (now m) m.log m.told.rounds.0 (length w.space) (length x.space) (longer_adds c w x adds) lease m.told.stage.at;
-    word = λ word some. its_word lease what m word (is word some);
+    place = m.told.stage.place;
+    behind = m.told.stage.behind;
+    attempt = record {
+      tried = tried_adds c w x adds m.told.before e.block (own m) (more m) (now m) m.log lease.from lease.page lease.target m.told.stage.place m.told.stage.tried;
+      word = λ word some. its_word lease what m word (is word some);
+    };
   })
 
   -- ---- a frame is given back
@@ -233,14 +240,31 @@ module _ (c : Setting) (w x : World) (e : Evacuating) (t : Tale) (adds : Adds c 
   abbrev tried : MoveLease → Option ℕ → Tale
   tried lease found = record t { attempts = record { lease = lease; found = found } ∷ t.attempts }
 
-  -- the attempt is one of the round
-  rounds_tried : (lease : MoveLease) (found : Option ℕ) {after : Evacuating} (m : IsTold c w x e t (Returning (record { lease = lease; found = found })) seen.Done after (tried lease found))
-      → AreTrueRounds (space_run c x) (DriverFound x) m.told.before e.block (now m) (length x.space) ((tried lease found).attempts ∷ t.rounds)
-  rounds_tried lease found m =
-      let old = rounds_still m in
-      let new : IsTrueAttempt (space_run c x) (DriverFound x) m.told.before e.block (now m) t.rounds old.0 (length x.space) (record { lease = lease; found = found }) =
-      attempt_adds c w x adds m.told.before e.block (own m) (more m) (now m) m.log t.rounds old.0 (length w.space) (length x.space) (longer_adds c w x adds) (record { lease = lease; found = found }) m.told.stage in
-      (old.0, old.1, (new, old.2), old.3)
+  -- it is an attempt of the round now, and was made at that place
+  module _ (lease : MoveLease) (found : Option ℕ) {after : Evacuating} (m : IsTold c w x e t (Returning (record { lease = lease; found = found })) seen.Done after (tried lease found)) where
+    made_there : IsTrueAttempt (space_run c x) (DriverFound x) m.told.before e.block (now m) t.rounds (record { lease = lease; found = found }) m.told.stage.place
+    made_there = attempt_adds c w x adds m.told.before e.block (own m) (more m) (now m) m.log t.rounds (record { lease = lease; found = found }) m.told.stage.place m.told.stage.attempt
+
+    within : suc m.told.stage.place ≤ length x.space
+    within = slice_get_within x.space m.told.stage.place (space.MoveLease lease.target lease.page) made_there.tried.leased
+
+    rounds_tried : AreTrueRounds (space_run c x) (DriverFound x) m.told.before e.block (now m) (suc m.told.stage.place) ((tried lease found).attempts ∷ t.rounds)
+    rounds_tried =
+        let old = rounds_still m in (
+          old.0,
+          (
+            m.told.stage.place,
+            le_refl (suc m.told.stage.place),
+            made_there,
+            attempts_later (space_run c x) (DriverFound x) m.told.before e.block (now m) t.rounds old.0 m.told.end m.told.stage.place m.told.stage.behind t.attempts old.1,
+          ),
+          old.2,
+        )
+
+    tried_on : IsTrueAt (space_run c x) (DriverFound x) m.told.before after.block (now m) t.rounds (suc m.told.stage.place) after.stage → after.block ≡ e.block → HasToldTrue c x after (tried lease found)
+    tried_on at same =
+        told_to m (suc m.told.stage.place) within
+        (subst (λ (b : BlockNo). AreTrueRounds (space_run c x) (DriverFound x) m.told.before b (now m) (suc m.told.stage.place) ((tried lease found).attempts ∷ t.rounds)) (sym same) rounds_tried) at
 
   abbrev busy_on : MoveLease → (word : ℕ) → Evacuating
   busy_on lease word = record e { stage = Leasing (Some lease.from); busy = option_or e.busy (Some lease); words = with_word e.words (place_of e.sizes e.block lease.from) e.round word }
@@ -249,20 +273,19 @@ module _ (c : Setting) (w x : World) (e : Evacuating) (t : Tale) (adds : Adds c 
       → IsTold c w x e t (Returning (record { lease = lease; found = Some word })) seen.Done (if pinned then standing e (Undoing (cause.Pinned lease.from lease.page word)) else busy_on lease word) (tried lease (Some word))
       → HasToldTrue c x (if pinned then standing e (Undoing (cause.Pinned lease.from lease.page word)) else busy_on lease word) (tried lease (Some word))
   by_pinned lease word true m =
-      let all = rounds_tried lease (Some word) m in
-      let attempt = (all.2).0 in
-      told_on m all (record {
+      let attempt = made_there lease (Some word) m in
+      tried_on lease (Some word) m (record {
         in_block = in_sizes lease.from m.goes_by.stands.in_block;
         holds = record {
-          place = attempt.leased.place;
-          found = record { target = lease.target; tried = attempt.leased.tried; found = (attempt.word word refl).found };
+          place = m.told.stage.place;
+          found = record { target = lease.target; tried = attempt.tried; found = (attempt.word word refl).found };
           pinned = m.goes_by.stands.found.pinned;
         };
-      })
-  by_pinned lease word false m = told_on m (rounds_tried lease (Some word) m) tt
+      }) refl
+  by_pinned lease word false m = tried_on lease (Some word) m tt refl
 
   given_back : (lease : MoveLease) (found : Option ℕ) → IsTold c w x e t (Returning (record { lease = lease; found = found })) seen.Done (attempt_over e lease found) (tried lease found) → HasToldTrue c x (attempt_over e lease found) (tried lease found)
-  given_back lease None m = told_on m (rounds_tried lease None m) tt
+  given_back lease None m = tried_on lease None m tt refl
   given_back lease (Some word) m = by_pinned lease word (is_pinned word lease.from.0) m
 
   -- ---- any answer

@@ -23,7 +23,6 @@ use Rattle.evac_model.specs.HostCommands.{request_action, blocks_of, plugged_by,
 use Rattle.evac_model.specs.Pairing.{actions_of}
 use Rattle.evac_model.proofs.Lists.{all_push}
 use Rattle.evacuate.specs.Tale.{Tale, nothing_tried}
-use Rattle.host_work.specs.Evacuated.{WasEvacuated}
 use Rattle.host_work.specs.Requests.{block_no, blocks_to_empty, blocks_back, AreTakenAway, emptied_lines}
 use Rattle.machine.specs.Consistent.{IsSetting, IsConsistent}
 use Rattle.machine.specs.Made.{Made, made}
@@ -32,14 +31,16 @@ use Rattle.machine.specs.World.{Setting, World, device_now, device_at, calls_now
 use Rattle.core_actors.specs.declared.host_place.HostPlace.{HostPlace}
 use Rattle.core_actors.specs.declared.host_place.HostPlace.TheVariants as places
 use Rattle.core_actors.specs.HostDid.{run_list, taken_away, HasTaken, IsDoingZeros, IsDoingAt, IsDoneFor, HostDid}
-use Rattle.core_actors.specs.HostFound.{truth, evacuation_did}
+use Rattle.core_actors.specs.HostFound.{truth, evacuation_did, HasToldTrue, IsTruePlace, HostFound}
 use Rattle.core_actors.specs.HostHears.{answered, taken_on, with_result, host_after, line_after}
 use Rattle.core_actors.specs.HostSeat.{HostSeat}
 use Rattle.core_actors.specs.HostSpace.{HostSpace, IsZeroing, IsPlacedAt, tale_heard}
 use Rattle.core_actors.specs.Hosts.{HostState, away, first_of, with_next_block, next_block, host_ended, host_action}
 use Rattle.evac_model.proofs.Pushes.{own_push}
 use Rattle.core_actors.proofs.HostDoesLists.{from_place, down_to, taken_still, taken_one_more, put_one_more, begins_to_put, AreUntold, no_line, result_did}
+use Rattle.core_actors.proofs.HostEndsTrue.{true_at_end}
 use Rattle.core_actors.proofs.HostPlaces.{IsBlockPlace}
+use Rattle.core_actors.proofs.HostTruths.{Adds, truth_on}
 
 module _ (c : Setting) (y w : World) (runs : List HostRun) (t : Tale) (g : HostState) (command : HostCommand) (cs : List HostCommand) where
   abbrev host : HostPlace → HostState
@@ -63,8 +64,8 @@ module _ (c : Setting) (y w : World) (runs : List HostRun) (t : Tale) (g : HostS
 
   -- ---- an emptied block is taken away
 
-  taking_away : HostDid c y w runs (host places.TakingAway) t → IsPlacedAt c w (host places.TakingAway) t places.TakingAway → Behind (host places.TakingAway) (made c 0 w (host_action (host places.TakingAway)))
-  taking_away did place =
+  taking_away : HostDid c y w runs (host places.TakingAway) t → IsPlacedAt c w (host places.TakingAway) t places.TakingAway → HasToldTrue c w g.evacuation t → Adds c w y → Behind (host places.TakingAway) (made c 0 w (host_action (host places.TakingAway)))
+  taking_away did place told_true adds =
       let m : Made = made c 0 w (host_action (host places.TakingAway)) in
       let b : ℕ = g.evacuation.block.0 in
       let p = place.0 in
@@ -72,10 +73,12 @@ module _ (c : Setting) (y w : World) (runs : List HostRun) (t : Tale) (g : HostS
       let waits : suc (g.waiting - 1) ≡ g.waiting = omega arith in
       let taken : reverse (drop (g.waiting - 1) g.blocks) ≡ taken_away g ++ b ∷ [] =
       down_to g.blocks (g.waiting - 1) b p.block ∙ ap (λ (k : ℕ). reverse (drop k g.blocks) ++ b ∷ []) waits in
-      let emptied : WasEvacuated c.sizes (block_no b) None (evacuation_did g.evacuation t) =
-      record { evacuation = g.evacuation; tale = t; sizes = p.sizes; block = refl; ended = place.1; goes_by = p.goes_by; made = refl } in
+      let has_taken = did.doing.0 in
+      let emptied : truth c y (did.done ++ has_taken.emptying) (block_no b) None (evacuation_did g.evacuation t) =
+      truth_on c w y adds (did.done ++ has_taken.emptying) (block_no b) None (evacuation_did g.evacuation t)
+      (true_at_end c w g.evacuation t did.done has_taken.emptying has_taken.made told_true p.sizes p.goes_by None place.1) in
       let has : HasTaken c y m.world did.done did.sent (taken_away g ++ b ∷ []) [] =
-      taken_one_more c y w m.world did.done did.sent (taken_away g) (evacuation_did g.evacuation t) b did.doing.0 (emptied, tt) (own_push 0 w.space (space.Offline g.evacuation.block) refl) refl in
+      taken_one_more c y w m.world did.done did.sent (taken_away g) (evacuation_did g.evacuation t) b did.doing.0 emptied (own_push 0 w.space (space.Offline g.evacuation.block) refl) refl in
       on m.world places.TakingAway did refl (taken_on (host places.TakingAway)) t refl (
         subst (λ (l : List ℕ). HasTaken c y m.world did.done did.sent l []) (sym taken) has,
         did.doing.1 ∙ ap (λ (k : ℕ). emptied_lines (reverse (drop k g.blocks))) (sym waits),
@@ -227,17 +230,17 @@ module _ (c : Setting) (y w : World) (runs : List HostRun) (t : Tale) (g : HostS
 
   -- ---- any of these actions
 
-  at_place : (left : List HostCommand) (place : HostPlace) → HostDid c y w runs (standing left place) t → IsPlacedAt c w (standing left place) t place → g.sizes ≡ c.sizes → host_ended (standing left place) ≡ false → IsBlockPlace place → After (standing left place)
-  at_place [] place did at sizes going block = absurd (cc)
-  at_place (command ∷ cs) places.Asking did at sizes going block = at_asking command cs did at sizes
-  at_place (command ∷ cs) places.Evacuating did at sizes going block = absurd block
-  at_place (command ∷ cs) (places.Moving lease move) did at sizes going block = absurd block
-  at_place (command ∷ cs) places.TakingAway did at sizes going block = taking_away c y w runs t g command cs did at
-  at_place (command ∷ cs) (places.Zeroing frame cell) did at sizes going block = zeroing c y w runs t g command cs frame cell did
-  at_place (command ∷ cs) (places.MarkingZeros frame) did at sizes going block = marking c y w runs t g command cs frame did at
-  at_place (command ∷ cs) (places.PuttingOnline result) did at sizes going block = putting c y w runs t g command cs result did at
+  at_place : (left : List HostCommand) (place : HostPlace) → HostDid c y w runs (standing left place) t → IsPlacedAt c w (standing left place) t place → IsTruePlace c w (standing left place) t place → Adds c w y → g.sizes ≡ c.sizes → host_ended (standing left place) ≡ false → IsBlockPlace place → After (standing left place)
+  at_place [] place did at found adds sizes going block = absurd (cc)
+  at_place (command ∷ cs) places.Asking did at found adds sizes going block = at_asking command cs did at sizes
+  at_place (command ∷ cs) places.Evacuating did at found adds sizes going block = absurd block
+  at_place (command ∷ cs) (places.Moving lease move) did at found adds sizes going block = absurd block
+  at_place (command ∷ cs) places.TakingAway did at found adds sizes going block = taking_away c y w runs t g command cs did at found adds
+  at_place (command ∷ cs) (places.Zeroing frame cell) did at found adds sizes going block = zeroing c y w runs t g command cs frame cell did
+  at_place (command ∷ cs) (places.MarkingZeros frame) did at found adds sizes going block = marking c y w runs t g command cs frame did at
+  at_place (command ∷ cs) (places.PuttingOnline result) did at found adds sizes going block = putting c y w runs t g command cs result did at
 
-pub did_after_block : (c : Setting) (y w : World) (h : HostState) (t : Tale) (runs : List HostRun) → IsSetting c → IsConsistent c w → HostSeat c w h → HostSpace c w h t → HostDid c y w runs h t → host_ended h ≡ false → IsBlockPlace h.place → MayMake c 0 w (host_action h)
+pub did_after_block : (c : Setting) (y w : World) (h : HostState) (t : Tale) (runs : List HostRun) → IsSetting c → IsConsistent c w → HostSeat c w h → HostSpace c w h t → HostFound c w h t → Adds c w y → HostDid c y w runs h t → host_ended h ≡ false → IsBlockPlace h.place → MayMake c 0 w (host_action h)
     → let x : Made = made c 0 w (host_action h) in
     HostDid c y x.world (runs ++ run_list h.left (line_after (device_now c x.world).plugged h x.heard)) (host_after (device_now c x.world).plugged h x.heard) (tale_heard h t x.heard)
-did_after_block c y w h t runs set kept seat space did going block may = at_place c y w runs t h h.left h.place did space.place space.sizes going block
+did_after_block c y w h t runs set kept seat space found adds did going block may = at_place c y w runs t h h.left h.place did space.place found.place adds space.sizes going block

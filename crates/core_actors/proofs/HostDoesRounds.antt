@@ -1,7 +1,7 @@
 -- What the host did, behind each action by which a block is being emptied.
-use Rattle.std.proofs.Common.{◌≡◌, ℕ, suc, ◌-◌, ◌==◌, Bool, true, false, ◌||◌, not, nat_lt, if◌then◌else◌, List, [], ◌∷◌, ◌++◌, reverse, take, drop, append_assoc, append-nil, refl, sym, ap, ◌∙◌, subst, arith, Option, Some, None}
+use Rattle.std.proofs.Common.{◌≡◌, ℕ, suc, ◌-◌, ◌==◌, Bool, true, false, ◌||◌, not, nat_lt, if◌then◌else◌, List, [], ◌∷◌, ◌++◌, reverse, take, drop, append-nil, refl, sym, ap, ◌∙◌, subst, arith, Option, Some, None}
 use Rattle.std.specs.List.{slice_get}
-use Rattle.std.proofs.lemmas.List.{append_cancel_right, reverse-reverse}
+use Rattle.std.proofs.lemmas.List.{reverse-reverse}
 use Rattle.evac_model.specs.declared.device_journal.DeviceAction.{DeviceAction}
 use Rattle.evac_model.specs.declared.evacuation.EvacCause.{EvacCause}
 use Rattle.evac_model.specs.declared.evacuation.MoveLease.{MoveLease}
@@ -24,9 +24,8 @@ use Rattle.evacuate.specs.Found.{maps, is_pinned}
 use Rattle.evacuate.specs.Tale.{Tale}
 use Rattle.evacuate.specs.UnderWay.{LeasedWasBusy, tale_after, GoesOnBy}
 use Rattle.evacuate.proofs.Steps.{goes_on}
-use Rattle.host_work.specs.Evacuated.{WasEvacuated, space_action}
+use Rattle.host_work.specs.Evacuated.{space_action}
 use Rattle.host_work.specs.Requests.{failed_line}
-use Rattle.host_work.specs.Truth.{IsCauseTrue}
 use Rattle.machine.specs.Consistent.{IsSetting, IsConsistent}
 use Rattle.machine.specs.Made.{Made, made}
 use Rattle.machine.specs.MayMake.{MayMake}
@@ -36,7 +35,7 @@ use Rattle.core_actors.specs.declared.host_place.HostPlace.TheVariants as places
 use Rattle.core_actors.specs.declared.host_place.MovePlace.{MovePlace}
 use Rattle.core_actors.specs.declared.host_place.MovePlace.TheVariants as moves
 use Rattle.core_actors.specs.HostDid.{run_list, taken_away, HasTaken, IsDoingBlock, IsDoingAt, IsDoneFor, IsPutting, HostDid}
-use Rattle.core_actors.specs.HostFound.{space_run, DriverFound, evacuation_did, IsTrueAt, HasToldTrue}
+use Rattle.core_actors.specs.HostFound.{truth, evacuation_did, HasToldTrue}
 use Rattle.core_actors.specs.HostHears.{came_of, cell_on, moves_on, stays, goes_on_at, told, host_after, line_after, seen_in}
 use Rattle.core_actors.specs.HostSeat.{HostSeat}
 use Rattle.core_actors.specs.HostSpace.{HostSpace, IsEmptying, StaysAt, IsPlacedAt, tale_by, tale_told, tale_heard}
@@ -44,6 +43,7 @@ use Rattle.core_actors.specs.Hosts.{HostState, away, command_blocks, host_ended,
 use Rattle.core_actors.specs.Places.{word_in}
 use Rattle.core_actors.proofs.HostAnswers.{seen_answers, leased_was_busy}
 use Rattle.core_actors.proofs.HostDoesLists.{down_from, behind, taken_still, begins_to_put, AreUntold, no_line, result_did}
+use Rattle.core_actors.proofs.HostEndsTrue.{true_at_end}
 use Rattle.core_actors.proofs.HostMakes.{Makes, makes, did_more}
 use Rattle.core_actors.proofs.HostPlaces.{IsRoundPlace}
 use Rattle.core_actors.proofs.HostTold.{fits, returning}
@@ -119,8 +119,8 @@ module _ (c : Setting) (y w x : World) (runs : List HostRun) (h : HostState) (t 
   emptied_now : slice_get h.blocks (h.waiting - 1) ≡ Some after.block.0
   emptied_now = p.block ∙ ap (λ (b : BlockNo). Some b.0) (sym (evacuation_stays h.evacuation what).1)
 
-  -- for a cause that is true
-  module _ (met : (why : EvacCause) → after.stage ≡ Failed why → IsCauseTrue (space_run c y) (DriverFound y) (did.done ++ emptying) after.block (evacuation_did after next) why) where
+  -- and all that it was told is true
+  module _ (met : (why : EvacCause) → after.stage ≡ Failed why → truth c y (did.done ++ emptying) after.block (Some why) (evacuation_did after next)) where
     whole : (why : EvacCause) → after.stage ≡ Failed why → (left : List HostCommand) → h.blocks ≡ command_blocks c.sizes (device_at c.sizes did.sent).plugged left
         → IsDoneFor c y left did.done did.sent Unsent (h.tried ++ failed_line after.block.0 why ∷ []) ((emptying ++ evacuation_did after next) ++ put_online (away h)) []
     whole why failed [] blocks = absurd (let none : slice_get h.blocks (h.waiting - 1) ≡ None = ap (λ (l : List ℕ). slice_get l (h.waiting - 1)) blocks in let some = emptied_now in cc)
@@ -131,8 +131,6 @@ module _ (c : Setting) (y w x : World) (runs : List HostRun) (h : HostState) (t 
         let later : List ℕ = reverse (take (h.waiting - 1) h.blocks) in
         let all : reverse h.blocks ≡ taken_away h ++ after.block.0 ∷ later =
         subst (λ (k : ℕ). reverse h.blocks ≡ reverse (drop k h.blocks) ++ after.block.0 ∷ later) waits (down_from h.blocks (h.waiting - 1) after.block.0 emptied_now) in
-        let evacuated : WasEvacuated c.sizes after.block (Some why) (evacuation_did after next) =
-        record { evacuation = after; tale = next; sizes = (evacuation_stays h.evacuation what).0 ∙ p.sizes; block = refl; ended = failed; goes_by = goes.goes_by; made = refl } in
         record {
           before = taken_away h;
           block = after.block.0;
@@ -142,7 +140,7 @@ module _ (c : Setting) (y w x : World) (runs : List HostRun) (h : HostState) (t 
           emptying = emptying;
           taken_away = block.0.taken;
           failing = evacuation_did after next;
-          failed = (evacuated, met why failed);
+          failed = met why failed;
           made = ap (λ (l : List ℕ). (emptying ++ evacuation_did after next) ++ put_online l) (sym (reverse-reverse (away h)));
           nothing_sent = refl;
           tried = ap (λ (l : List Tried). l ++ failed_line after.block.0 why ∷ []) block.1;
@@ -165,16 +163,6 @@ module _ (c : Setting) (y w x : World) (runs : List HostRun) (h : HostState) (t 
 
     pub told_did : HostDid c y x (runs ++ run_list h.left (told plugged h what).line) (told plugged h what).state (tale_told h t what)
     told_did = by_stage after.stage refl
-
--- what the evacuation was told is true of the world behind its action, and so is a cause that it fails for
-module _ (c : Setting) (x : World) (e : Evacuating) (t : Tale) (done emptying : List SpaceAction) (did_all : actions_of 0 x.space ≡ done ++ (emptying ++ evacuation_did e t)) (told_true : HasToldTrue c x e t) where
-  met_behind : told_true.before ≡ done ++ emptying
-  met_behind = append_cancel_right told_true.before (done ++ emptying) (evacuation_did e t) (sym told_true.did ∙ (did_all ∙ sym (append_assoc done emptying (evacuation_did e t))))
-
-  pub true_cause : (why : EvacCause) → e.stage ≡ Failed why → IsCauseTrue (space_run c x) (DriverFound x) (done ++ emptying) e.block (evacuation_did e t) why
-  true_cause why failed =
-      subst (λ (l : List SpaceAction). IsCauseTrue (space_run c x) (DriverFound x) l e.block (evacuation_did e t) why) met_behind
-      (subst (λ (s : Stage). IsTrueAt (space_run c x) (DriverFound x) told_true.before e.block (evacuation_did e t) t.rounds told_true.rounds.0 s) failed told_true.stage)
 
 -- ---- a command under way
 
@@ -263,8 +251,9 @@ module _ (c : Setting) (w : World) (runs : List HostRun) (t : Tale) (g : HostSta
       let goes : GoesOnBy g.evacuation (evacuation_after g.evacuation answer) t answer =
       goes_on g.evacuation t answer place.0.goes_by (seen_answers c w emptier t place.0 place.1) (leased_was_busy c w emptier t place.0 place.1) in
       told_did c gives.world w gives.world runs emptier t plugged answer did did.doing place.0 goes more.0 more.1
-      (true_cause c gives.world (evacuation_after g.evacuation answer) (tale_after g.evacuation t answer) did.done did.doing.0.emptying
-      (made_now c gives.world w gives.world runs emptier t plugged answer did did.doing place.0 goes more.0 more.1) told_true)
+      (λ why failed. true_at_end c gives.world (evacuation_after g.evacuation answer) (tale_after g.evacuation t answer) did.done did.doing.0.emptying
+      (made_now c gives.world w gives.world runs emptier t plugged answer did did.doing place.0 goes more.0 more.1) told_true
+      ((evacuation_stays g.evacuation answer).0 ∙ place.0.sizes) goes.goes_by (Some why) failed)
 
 -- ---- any action of a round
 

@@ -267,7 +267,7 @@ module _ (c : Setting) (w x : World) (l : Left c w x) where
       told_left places.Asking is = tt
       told_left places.Evacuating is = told_still c w x adds l.space.own h.evacuation t is
       told_left (places.Moving lease at) is = (told_still c w x adds l.space.own h.evacuation t is.0, move_still c w x adds l.space.own t lease at is.1)
-      told_left places.TakingAway is = tt
+      told_left places.TakingAway is = told_still c w x adds l.space.own h.evacuation t is
       told_left (places.Zeroing frame cell) is = tt
       told_left (places.MarkingZeros frame) is = tt
       told_left (places.PuttingOnline result) is = tt

@@ -49,7 +49,7 @@ module _ (c : Setting) (x : World) where
   -- the next block of a command is tried, or the device is asked
   begun_found : (waiting : ℕ) (h : HostState) → HostFound c x (with_next_block waiting h) nothing_tried
   begun_found zero h = record { place = tt }
-  begun_found (suc n) h = record { place = record { before = actions_of 0 x.space; did = sym (append-nil (actions_of 0 x.space)); rounds = (length x.space, omega arith, tt, tt); stage = tt } }
+  begun_found (suc n) h = record { place = record { before = actions_of 0 x.space; did = sym (append-nil (actions_of 0 x.space)); end = length x.space; inside = omega arith; rounds = (length x.space, omega arith, tt); stage = tt } }
 
   -- a command begins
   command_found : (plugged : List ℕ) (h : HostState) → HostFound c x (command_begun plugged h) nothing_tried
@@ -83,7 +83,7 @@ module _ (c : Setting) (x : World) where
   by_stage plugged h e t holds (stages.Moving lease) = record { place = (holds, tt) }
   by_stage plugged h e t holds (stages.Returning attempt) = record { place = holds }
   by_stage plugged h e t holds (stages.Undoing why) = record { place = holds }
-  by_stage plugged h e t holds stages.Emptied = record { place = tt }
+  by_stage plugged h e t holds stages.Emptied = record { place = holds }
   by_stage plugged h e t holds (stages.Failed why) = result_found plugged (record h { evacuation = e; tried = h.tried ++ failed_line e.block.0 why ∷ [] }) results.Unsent
 
   told_found : (plugged : List ℕ) (h : HostState) (t : Tale) (what : EvacSeen) → HasToldTrue c x (evacuation_after h.evacuation what) (tale_after h.evacuation t what) → HostFound c x (told plugged h what).state (tale_told h t what)
@@ -179,7 +179,7 @@ module _ (c : Setting) (w : World) (h : HostState) (e : Evacuating) (t : Tale) (
           last = last;
           behind = record {
             found = found.0;
-            late = behind_rounds (space_run c w) (DriverFound w) b.holds.before e.block (evacuation_did moving t) lease.page word found.1 b.holds.rounds.0 t.rounds b.holds.rounds.3;
+            late = behind_rounds (space_run c w) (DriverFound w) b.holds.before e.block (evacuation_did moving t) lease.page word found.1 b.holds.rounds.0 t.rounds b.holds.rounds.2;
           };
         })
     move_at Beginning b = steps_on (behind Beginning).world (adds_at Beginning b.may) refl Beginning b.holds (Loading 0) tt

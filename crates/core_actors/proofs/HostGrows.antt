@@ -32,7 +32,7 @@ use Rattle.evacuate.specs.declared.stage.Stage.{Stage}
 use Rattle.evacuate.specs.declared.stage.Stage.TheVariants as stages
 use Rattle.evacuate.specs.Evacuating.{Evacuating}
 use Rattle.evacuate.specs.Tale.{Tale}
-use Rattle.host_work.specs.Truth.{SpaceRun, targets_in, take_at, Finds}
+use Rattle.host_work.specs.Truth.{SpaceRun, targets_in, take_number_at, Finds, IsNotAbove, AreNotAbove, AreTrueRounds}
 use Rattle.space.specs.Refusals.{first_unmovable, next_out}
 use Rattle.machine.specs.declared.action.Action.{Action}
 use Rattle.machine.specs.declared.action.Action.TheVariants as actions
@@ -47,9 +47,9 @@ use Rattle.machine.specs.World.{Setting, World, IsOwnerSeat, space_now}
 use Rattle.machine.proofs.Elsewhere.{driver_stays, driver_changes_hand}
 use Rattle.core_actors.specs.declared.host_place.MovePlace.{MovePlace}
 use Rattle.core_actors.specs.declared.host_place.MovePlace.TheVariants as moves
-use Rattle.core_actors.specs.HostFound.{space_run, takes_of, DriverFound, evacuation_did, IsNotAbove, AreNotAbove, IsTrueAttempt, AreTrueRounds, IsTrueAt, HasToldTrue, IsTrueMove}
+use Rattle.core_actors.specs.HostFound.{space_run, takes_of, DriverFound, evacuation_did, IsTrueAt, HasToldTrue, IsTrueMove}
 use Rattle.core_actors.specs.HostSeat.{IsDriver}
-use Rattle.core_actors.proofs.HostRoundsTrue.{longer_adds, take_adds, behind_adds, cause_adds, lease_adds, attempt_adds, rounds_adds}
+use Rattle.core_actors.proofs.HostRoundsTrue.{longer_adds, take_adds, behind_adds, cause_adds, tried_adds, attempt_adds, rounds_adds, IsMadeIn, all_made}
 use Rattle.core_actors.proofs.HostTruths.{Adds}
 use Rattle.core_actors.proofs.HostViews.{driver_of, driver_there, driver_stepped, driver_moved}
 
@@ -192,9 +192,9 @@ pub behind_rounds : (r : SpaceRun) (finds : Finds) (before : List SpaceAction) (
     → (end : ℕ) (rounds : List (List Attempt)) → AreTrueRounds r finds before b own end rounds → AreNotAbove rounds page word
 behind_rounds r finds before b own page word low end [] holds = tt
 behind_rounds r finds before b own page word low end (attempts ∷ rounds) holds = (
-  all_weaker (IsTrueAttempt r finds before b own rounds holds.0 end) (IsNotAbove page word)
-      (λ a is. λ old same found. low (take_at r is.leased.place) old (subst (λ (p : PageNo). finds (take_at r is.leased.place) p old) same (is.word old found).found)) attempts holds.2,
-  behind_rounds r finds before b own page word low holds.0 rounds holds.3,
+  all_weaker (IsMadeIn r finds before b own rounds holds.0 end) (IsNotAbove page word)
+      (λ a is. λ old same found. low (take_number_at r is.place) old (subst (λ (p : PageNo). finds (take_number_at r is.place) p old) same (is.made.word old found).found)) attempts (all_made r finds before b own rounds holds.0 end attempts holds.1),
+  behind_rounds r finds before b own page word low holds.0 rounds holds.2,
 )
 
 -- ---- what stays true, where the evacuation was told nothing more
@@ -202,17 +202,23 @@ behind_rounds r finds before b own page word low end (attempts ∷ rounds) holds
 -- The driver made nothing there.
 module _ (c : Setting) (w x : World) (adds : Adds c w x) (same : actions_of 0 x.space ≡ actions_of 0 w.space) where
   module _ (before : List SpaceAction) (b : BlockNo) (own : List SpaceAction) where
-    stage_still : (rounds : List (List Attempt)) (begin : ℕ) (stage : Stage) → IsTrueAt (space_run c w) (DriverFound w) before b own rounds begin stage → IsTrueAt (space_run c x) (DriverFound x) before b own rounds begin stage
-    stage_still rounds begin stages.Isolating is = tt
-    stage_still rounds begin (stages.Leasing after) is = tt
-    stage_still rounds begin (stages.Moving lease) is = record {
-      at = lease_adds c w x adds before b own [] own (append-nil own) begin (length w.space) (length x.space) (longer_adds c w x adds) lease is.at;
-      last = ap (λ (n : ℕ). suc n) (take_adds c w x adds is.at.place is.at.tried.was_out.inside) ∙ is.last;
+    stage_still : (rounds : List (List Attempt)) (from : ℕ) (stage : Stage) → IsTrueAt (space_run c w) (DriverFound w) before b own rounds from stage → IsTrueAt (space_run c x) (DriverFound x) before b own rounds from stage
+    stage_still rounds from stages.Isolating is = tt
+    stage_still rounds from (stages.Leasing after) is = tt
+    stage_still rounds from (stages.Moving lease) is = record {
+      place = is.place;
+      behind = is.behind;
+      tried = tried_adds c w x adds before b own [] own (append-nil own) lease.from lease.page lease.target is.place is.tried;
+      last = ap (λ (n : ℕ). suc n) (take_adds c w x adds is.place is.tried.was_out.inside) ∙ is.last;
     }
-    stage_still rounds begin (stages.Returning a) is = attempt_adds c w x adds before b own [] own (append-nil own) rounds begin (length w.space) (length x.space) (longer_adds c w x adds) a is
-    stage_still rounds begin (stages.Undoing cause) is = cause_adds c w x adds before b own [] own (append-nil own) cause is
-    stage_still rounds begin stages.Emptied is = tt
-    stage_still rounds begin (stages.Failed cause) is = cause_adds c w x adds before b own [] own (append-nil own) cause is
+    stage_still rounds from (stages.Returning a) is = record {
+      place = is.place;
+      behind = is.behind;
+      attempt = attempt_adds c w x adds before b own [] own (append-nil own) rounds a is.place is.attempt;
+    }
+    stage_still rounds from (stages.Undoing cause) is = cause_adds c w x adds before b own [] own (append-nil own) cause is
+    stage_still rounds from stages.Emptied is = tt
+    stage_still rounds from (stages.Failed cause) is = cause_adds c w x adds before b own [] own (append-nil own) cause is
 
   pub told_still : (e : Evacuating) (t : Tale) → HasToldTrue c w e t → HasToldTrue c x e t
   told_still e t p =
@@ -220,8 +226,10 @@ module _ (c : Setting) (w x : World) (adds : Adds c w x) (same : actions_of 0 x.
       record {
         before = p.before;
         did = same ∙ p.did;
-        rounds = rounds_adds c w x adds p.before e.block own [] own (append-nil own) (length w.space) (length x.space) (longer_adds c w x adds) (t.attempts ∷ t.rounds) p.rounds;
-        stage = stage_still p.before e.block own t.rounds p.rounds.0 e.stage p.stage;
+        end = p.end;
+        inside = omega (arith, p.inside, longer_adds c w x adds);
+        rounds = rounds_adds c w x adds p.before e.block own [] own (append-nil own) p.end (t.attempts ∷ t.rounds) p.rounds;
+        stage = stage_still p.before e.block own t.rounds p.end e.stage p.stage;
       }
 
   pub move_still : (t : Tale) (lease : MoveLease) (at : MovePlace) → IsTrueMove w t lease at → IsTrueMove x t lease at

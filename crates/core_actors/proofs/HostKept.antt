@@ -20,7 +20,7 @@ use Rattle.core_actors.proofs.HostGrows.{driver_adds}
 use Rattle.core_actors.proofs.HostFinds.{found_after}
 use Rattle.core_actors.proofs.HostHasTakes.{takes_after}
 use Rattle.core_actors.proofs.HostEvacuatesTrue.{told_evacuating}
-use Rattle.core_actors.proofs.HostTruths.{did_true_of}
+use Rattle.core_actors.proofs.HostTruths.{Adds, did_true_of}
 use Rattle.core_actors.proofs.HostPlaces.{IsRoundPlace, IsBlockPlace}
 use Rattle.core_actors.proofs.HostSteps.{IsStepPlace, seat_after_step}
 use Rattle.core_actors.proofs.HostHands.{IsHandPlace, seat_after_hand}
@@ -74,14 +74,17 @@ module _ (c : Setting) (w : World) (runs : List HostRun) (h : HostState) (set : 
   takes_on : HasTakes x.world (host_after plugged h x.heard)
   takes_on = takes_after c w h k.tale set kept k.seat k.space k.takes going may
 
+  adds : Adds c w x.world
+  adds = driver_adds c w (host_action h) set kept k.seat.driver may
+
   -- what was done is true of the world behind the action
   did_then : HostDid c x.world w runs h k.tale
-  did_then = did_true_of c w x.world w runs h k.tale (driver_adds c w (host_action h) set kept k.seat.driver may) k.did
+  did_then = did_true_of c w x.world w runs h k.tale adds k.did
 
   did_on : HostDid c x.world x.world (runs ++ run_list h.left (line_after plugged h x.heard)) (host_after plugged h x.heard) (tale_heard h k.tale x.heard)
   did_on = round_or_block h.place
       (λ at. did_after_round c w h k.tale runs set kept k.seat k.space did_then going at may (λ evacuating. told_evacuating c w h k.tale set kept k.seat k.space k.found going may evacuating))
-      (λ at. did_after_block c x.world w h k.tale runs set kept k.seat k.space did_then going at may)
+      (λ at. did_after_block c x.world w h k.tale runs set kept k.seat k.space k.found adds did_then going at may)
 
   pub hosts_go_on : HostKept c x.world (runs ++ run_list h.left (line_after plugged h x.heard)) (host_after plugged h x.heard)
   hosts_go_on = record {

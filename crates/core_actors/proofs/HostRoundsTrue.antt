@@ -1,6 +1,6 @@
 -- What an evacuation was told stays true behind more actions of the frame space. And where it is true of five rounds in which a page was
 -- busy, the five words were found for the page, in that order, each in an attempt of its own.
-use Rattle.std.proofs.Common.{◌≡◌, ℕ, suc, ◌-◌, ◌≤◌, List, [], ◌∷◌, ◌++◌, length, length-append, map, reverse, refl, sym, ap, ◌∙◌, subst, arith, le_refl, le_trans, lt_of_lt_of_le, Some}
+use Rattle.std.proofs.Common.{◌≡◌, ℕ, suc, ◌-◌, ◌<◌, ◌≤◌, List, [], ◌∷◌, ◌++◌, length, length-append, map, reverse, refl, sym, ap, ◌∙◌, subst, arith, Some}
 use Rattle.std.specs.List.{AllByRecursion}
 use Rattle.std.specs.List.Sorted.{IsNonDecreasing}
 use Rattle.std.proofs.lemmas.Grind.{reverse_onto}
@@ -8,7 +8,6 @@ use Rattle.std.proofs.lemmas.List.{map-append, reverse-reverse}
 use Rattle.std.proofs.lemmas.List.Sorted.{IsNonDecreasingBy-push}
 use mathlib.Core.List.{reverse_aux}
 use Rattle.evac_model.specs.declared.evacuation.EvacCause.{EvacCause}
-use Rattle.evac_model.specs.declared.evacuation.MoveLease.{MoveLease}
 use Rattle.evac_model.specs.declared.names.BlockNo.{BlockNo}
 use Rattle.evac_model.specs.declared.names.FrameNo.{FrameNo}
 use Rattle.evac_model.specs.declared.names.PageNo.{PageNo}
@@ -19,10 +18,10 @@ use Rattle.evacuate.specs.declared.stage.Attempt.{Attempt}
 use Rattle.evacuate.specs.Causes.{AreFound, WasBusyInFive}
 use Rattle.evacuate.specs.Tale.{Tale, WasFound}
 use Rattle.evacuate.proofs.Kept.{all_of}
-use Rattle.host_work.specs.Truth.{SpaceRun, take_at, Finds, WasTriedAt, AreFoundFrom, BusyHolds, IsCauseTrue}
-use Rattle.host_work.proofs.TruthGrows.{take_at_grown, was_tried_grown, found_from, true_grown}
+use Rattle.host_work.specs.Truth.{SpaceRun, take_number_at, Finds, WasTriedAt, AreFoundFrom, BusyHolds, IsCauseTrue, IsNotAbove, AreNotAbove, IsFoundBehind, IsTrueAttempt, AreTrueAttempts, AreTrueRounds}
+use Rattle.host_work.proofs.TruthGrows.{take_number_at_grown, was_tried_grown, found_from, true_grown, attempt_grown, rounds_grown}
 use Rattle.machine.specs.World.{Setting, World}
-use Rattle.core_actors.specs.HostFound.{space_run, DriverFound, IsNotAbove, AreNotAbove, IsFoundBehind, IsTrueLease, IsTrueAttempt, AreTrueRounds}
+use Rattle.core_actors.specs.HostFound.{space_run, DriverFound}
 use Rattle.core_actors.proofs.HostTruths.{Adds}
 
 -- ---- behind more actions
@@ -35,8 +34,8 @@ module _ (c : Setting) (w x : World) (adds : Adds c w x) where
   longer_adds = let same = ap (λ (j : List SpaceAction). length j) adds.space ∙ length-append w.space adds.more in omega arith
 
   -- the takes before a place stay as many
-  pub take_adds : (place : ℕ) → place ≤ length w.space → take_at (space_run c x) place ≡ take_at (space_run c w) place
-  take_adds place inside = ap (λ (j : List SpaceAction). take_at (run_by c j) place) adds.space ∙ take_at_grown (space_run c w) adds.more place inside
+  pub take_adds : (place : ℕ) → place ≤ length w.space → take_number_at (space_run c x) place ≡ take_number_at (space_run c w) place
+  take_adds place inside = ap (λ (j : List SpaceAction). take_number_at (run_by c j) place) adds.space ∙ take_number_at_grown (space_run c w) adds.more place inside
 
   pub behind_adds : (number : ℕ) (rounds : List (List Attempt)) (page : PageNo) (word : ℕ) → IsFoundBehind (DriverFound w) number rounds page word → IsFoundBehind (DriverFound x) number rounds page word
   behind_adds number rounds page word h = record { found = adds.found number page word h.found; late = h.late }
@@ -55,33 +54,39 @@ module _ (c : Setting) (w x : World) (adds : Adds c w x) where
         (subst (λ (j : List SpaceAction). WasTriedAt (run_by c j) before b (own ++ own_more) frame page target place) (sym adds.space)
         (was_tried_grown (space_run c w) adds.more before b own own_more frame page target place was))
 
-    -- at the same place
-    abbrev pub lease_adds : (begin end later : ℕ) → end ≤ later → (lease : MoveLease) → IsTrueLease (space_run c w) before b own begin end lease → IsTrueLease (space_run c x) before b after begin later lease
-    lease_adds begin end later fits lease h = record {
-      place = h.place;
-      begun = h.begun;
-      ended = lt_of_lt_of_le h.ended fits;
-      tried = tried_adds lease.from lease.page lease.target h.place h.tried;
-    }
+    pub attempt_adds : (rounds : List (List Attempt)) (a : Attempt) (place : ℕ) → IsTrueAttempt (space_run c w) (DriverFound w) before b own rounds a place → IsTrueAttempt (space_run c x) (DriverFound x) before b after rounds a place
+    attempt_adds rounds a place h =
+        subst (λ (l : List SpaceAction). IsTrueAttempt (space_run c x) (DriverFound x) before b l rounds a place) longer
+        (subst (λ (j : List SpaceAction). IsTrueAttempt (run_by c j) (DriverFound x) before b (own ++ own_more) rounds a place) (sym adds.space)
+        (attempt_grown (space_run c w) adds.more (DriverFound w) (DriverFound x) adds.found before b own own_more rounds a place h))
 
-    pub attempt_adds : (rounds : List (List Attempt)) (begin end later : ℕ) → end ≤ later → (a : Attempt) → IsTrueAttempt (space_run c w) (DriverFound w) before b own rounds begin end a → IsTrueAttempt (space_run c x) (DriverFound x) before b after rounds begin later a
-    attempt_adds rounds begin end later fits a h = record {
-      leased = lease_adds begin end later fits a.lease h.leased;
-      word = λ word some.
-          subst (λ (number : ℕ). IsFoundBehind (DriverFound x) number rounds a.lease.page word) (sym (take_adds h.leased.place h.leased.tried.was_out.inside))
-          (behind_adds (take_at (space_run c w) h.leased.place) rounds a.lease.page word (h.word word some));
-    }
+    pub rounds_adds : (end : ℕ) (rounds : List (List Attempt)) → AreTrueRounds (space_run c w) (DriverFound w) before b own end rounds → AreTrueRounds (space_run c x) (DriverFound x) before b after end rounds
+    rounds_adds end rounds all =
+        subst (λ (l : List SpaceAction). AreTrueRounds (space_run c x) (DriverFound x) before b l end rounds) longer
+        (subst (λ (j : List SpaceAction). AreTrueRounds (run_by c j) (DriverFound x) before b (own ++ own_more) end rounds) (sym adds.space)
+        (rounds_grown (space_run c w) adds.more (DriverFound w) (DriverFound x) adds.found before b own own_more end rounds all))
 
-    -- the rounds begin where they began
-    abbrev pub rounds_adds : (end later : ℕ) → end ≤ later → (rounds : List (List Attempt)) → AreTrueRounds (space_run c w) (DriverFound w) before b own end rounds → AreTrueRounds (space_run c x) (DriverFound x) before b after later rounds
-    rounds_adds end later fits [] all = tt
-    rounds_adds end later fits (attempts ∷ rounds) all = (
-      all.0,
-      le_trans all.1 fits,
-      all_weaker (IsTrueAttempt (space_run c w) (DriverFound w) before b own rounds all.0 end) (IsTrueAttempt (space_run c x) (DriverFound x) before b after rounds all.0 later)
-          (λ a h. attempt_adds rounds all.0 end later fits a h) attempts all.2,
-      rounds_adds all.0 all.0 (le_refl all.0) rounds all.3,
-    )
+-- ---- the attempts of a round
+
+-- an attempt was made at a place of that part of the journal
+pub record IsMadeIn (r : SpaceRun) (finds : Finds) (before : List SpaceAction) (b : BlockNo) (own : List SpaceAction) (rounds : List (List Attempt)) (begin end : ℕ) (a : Attempt) : Type 0 where
+  pub place : ℕ
+  pub begun : begin ≤ place
+  pub ended : place < end
+  pub made : IsTrueAttempt r finds before b own rounds a place
+
+module _ (r : SpaceRun) (finds : Finds) (before : List SpaceAction) (b : BlockNo) (own : List SpaceAction) (rounds : List (List Attempt)) (begin : ℕ) where
+  low_end : (end : ℕ) (attempts : List Attempt) → AreTrueAttempts r finds before b own rounds begin end attempts → begin ≤ end
+  low_end end [] all = all
+  low_end end (a ∷ attempts) all = omega (arith, low_end all.0 attempts all.3, all.1)
+
+  pub all_made : (end : ℕ) (attempts : List Attempt) → AreTrueAttempts r finds before b own rounds begin end attempts → AllByRecursion (IsMadeIn r finds before b own rounds begin end) attempts
+  all_made end [] all = tt
+  all_made end (a ∷ attempts) all = (
+    record { place = all.0; begun = low_end all.0 attempts all.3; ended = all.1; made = all.2 },
+    all_weaker (IsMadeIn r finds before b own rounds begin all.0) (IsMadeIn r finds before b own rounds begin end)
+        (λ other h. record { place = h.place; begun = h.begun; ended = omega (arith, h.ended, all.1); made = h.made }) attempts (all_made all.0 attempts all.3),
+  )
 
 -- ---- lists turned round
 
@@ -110,9 +115,9 @@ module _ (r : SpaceRun) (finds : Finds) (before : List SpaceAction) (b : BlockNo
   tried target word = record { lease = record { from = frame; page = page; target = target }; found = Some word }
 
   -- the attempt of a round that found the word
-  found_in_round : (rounds : List (List Attempt)) (attempts : List Attempt) (begin end word : ℕ) → AllByRecursion (IsTrueAttempt r finds before b own rounds begin end) attempts → (found : WasFound attempts frame page word)
-      → IsTrueAttempt r finds before b own rounds begin end (tried found.target word)
-  found_in_round rounds attempts begin end word all found = all_of (IsTrueAttempt r finds before b own rounds begin end) attempts (tried found.target word) all found.there
+  found_in_round : (rounds : List (List Attempt)) (attempts : List Attempt) (begin end word : ℕ) → AreTrueAttempts r finds before b own rounds begin end attempts → (found : WasFound attempts frame page word)
+      → IsMadeIn r finds before b own rounds begin end (tried found.target word)
+  found_in_round rounds attempts begin end word all found = all_of (IsMadeIn r finds before b own rounds begin end) attempts (tried found.target word) (all_made r finds before b own rounds begin end attempts all) found.there
 
   -- the words of rounds, the oldest first, and behind them later ones
   words_found : (rounds : List (List Attempt)) (words later : List ℕ) (end : ℕ) → AreTrueRounds r finds before b own end rounds → AreFound frame page rounds words → AreFoundFrom r finds before b own frame page end later
@@ -121,14 +126,13 @@ module _ (r : SpaceRun) (finds : Finds) (before : List SpaceAction) (b : BlockNo
   words_found [] (word ∷ words) later end all found behind = absurd found
   words_found (attempts ∷ rounds) [] later end all found behind = absurd found
   words_found (attempts ∷ rounds) (word ∷ words) later end all found behind =
-      let a = found_in_round rounds attempts all.0 end word all.2 found.0 in
-      let place : ℕ = a.leased.place in
-      words_found rounds words (word ∷ later) all.0 all.3 found.2 (
-        place,
-        a.leased.begun,
-        record { target = found.0.target; tried = a.leased.tried; found = (a.word word refl).found },
+      let a = found_in_round rounds attempts all.0 end word all.1 found.0 in
+      words_found rounds words (word ∷ later) all.0 all.2 found.2 (
+        a.place,
+        a.begun,
+        record { target = found.0.target; tried = a.made.tried; found = (a.made.word word refl).found },
         found.1,
-        found_from r finds before b own frame page (suc place) end a.leased.ended later behind,
+        found_from r finds before b own frame page (suc a.place) end a.ended later behind,
       )
 
   -- no word of the rounds before has a bound above that of this one
@@ -145,8 +149,8 @@ module _ (r : SpaceRun) (finds : Finds) (before : List SpaceAction) (b : BlockNo
   words_rise [] (word ∷ words) end all found = absurd found
   words_rise (attempts ∷ rounds) [] end all found = absurd found
   words_rise (attempts ∷ rounds) (word ∷ words) end all found =
-      let a = found_in_round rounds attempts all.0 end word all.2 found.0 in
-      rise_more words word (words_rise rounds words all.0 all.3 found.2) (older_below rounds words word (a.word word refl).late found.2)
+      let a = found_in_round rounds attempts all.0 end word all.1 found.0 in
+      rise_more words word (words_rise rounds words all.0 all.2 found.2) (older_below rounds words word (a.made.word word refl).late found.2)
 
   pub busy_true : (t : Tale) (words : List ℕ) (end : ℕ) → WasBusyInFive t frame page words → AreTrueRounds r finds before b own end (t.attempts ∷ t.rounds) → BusyHolds r finds before b own frame page words
   busy_true t words end busy all = record {

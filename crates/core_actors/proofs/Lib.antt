@@ -37,6 +37,7 @@ pub mod HostEvacuates
 pub mod HostGoesOn
 pub mod HostRounds
 pub mod HostDoesLists
+pub mod HostEndsTrue
 pub mod HostDoesRounds
 pub mod HostDoesBlocks
 pub mod HostAsked

@@ -1,13 +1,11 @@
 -- What the evacuation under way found: that what it was told is true of the frame space's journal and of the words that the driver's
 -- takes found.
-use Rattle.std.specs.Prelude.{◌≡◌, ◌<◌, ◌≤◌, ℕ, suc, ◌+◌, List, [], ◌∷◌, ◌++◌, length, slice_get, None, Some, ⊤}
-use Rattle.std.specs.List.{AllByRecursion}
+use Rattle.std.specs.Prelude.{◌≡◌, ◌≤◌, ℕ, suc, ◌+◌, List, ◌∷◌, ◌++◌, length, slice_get, None, Some, ⊤}
 use Rattle.evac_model.specs.declared.evacuation.MoveLease.{MoveLease}
 use Rattle.evac_model.specs.declared.names.BlockNo.{BlockNo}
 use Rattle.evac_model.specs.declared.names.PageNo.{PageNo}
 use Rattle.evac_model.specs.declared.space.SpaceAction.{SpaceAction}
 use Rattle.evac_model.specs.Pairing.{actions_of}
-use Rattle.evac_words.specs.Word.{bound_of}
 use Rattle.core_state.specs.declared.noticed.Notice.{Notice}
 use Rattle.core_state.specs.Views.{view_of}
 use Rattle.evacuate.specs.declared.stage.Attempt.{Attempt}
@@ -18,7 +16,7 @@ use Rattle.evacuate.specs.Tale.{Tale}
 use Rattle.evacuate.specs.UnderWay.{log_of}
 use Rattle.host_work.specs.Evacuated.{space_actions}
 use Rattle.host_work.specs.Requests.{Evacuates}
-use Rattle.host_work.specs.Truth.{SpaceRun, targets_in, take_at, Finds, WasTriedAt, IsCauseTrue, by_truth}
+use Rattle.host_work.specs.Truth.{SpaceRun, targets_in, take_number_at, Finds, WasTriedAt, IsCauseTrue, IsFoundBehind, IsTrueAttempt, AreTrueRounds, by_truth}
 use Rattle.machine.specs.World.{Setting, World}
 use Rattle.core_actors.specs.declared.host_place.HostPlace.{HostPlace}
 use Rattle.core_actors.specs.declared.host_place.HostPlace.TheVariants as places
@@ -48,66 +46,41 @@ truth c w = by_truth (space_run c w) (DriverFound w)
 abbrev pub evacuation_did : Evacuating → Tale → List SpaceAction
 evacuation_did e t = space_actions (log_of e t)
 
--- ---- the words of the rounds
-
--- no word that was found for the page in these rounds has a bound above that of this one
-abbrev pub IsNotAbove : PageNo → (word : ℕ) → Attempt → Type 0
-IsNotAbove page word a = (old : ℕ) → a.lease.page ≡ page → a.found ≡ Some old → bound_of old ≤ bound_of word
-
-abbrev pub AreNotAbove : List (List Attempt) → PageNo → (word : ℕ) → Type 0
-AreNotAbove rounds page word = AllByRecursion (AllByRecursion (IsNotAbove page word)) rounds
-
--- the take of that number found the word for the page, behind those of the rounds before
-pub record IsFoundBehind (finds : Finds) (number : ℕ) (rounds : List (List Attempt)) (page : PageNo) (word : ℕ) : Type 0 where
-  pub found : finds number page word
-  pub late : AreNotAbove rounds page word
-
--- ---- attempts of an evacuation, in a part of the journal: from `begin` on, and before `end`
-
--- the page of the lease was out in its frame, and its target was leased
-pub record IsTrueLease (r : SpaceRun) (before : List SpaceAction) (b : BlockNo) (own : List SpaceAction) (begin end : ℕ) (lease : MoveLease) : Type 0 where
-  pub place : ℕ
-  pub begun : begin ≤ place
-  pub ended : place < end
-  pub tried : WasTriedAt r before b own lease.from lease.page lease.target place
-
--- and the word that is said to be found for it was found by the take of that lease, behind those of the rounds before
-pub record IsTrueAttempt (r : SpaceRun) (finds : Finds) (before : List SpaceAction) (b : BlockNo) (own : List SpaceAction) (rounds : List (List Attempt)) (begin end : ℕ) (a : Attempt) : Type 0 where
-  pub leased : IsTrueLease r before b own begin end a.lease
-  pub word : (word : ℕ) → a.found ≡ Some word → IsFoundBehind finds (take_at r leased.place) rounds a.lease.page word
-
--- Rounds, the newest first, before `end`. Each has a part of the journal of its own, behind those of the rounds before.
-abbrev pub AreTrueRounds : SpaceRun → Finds → (before : List SpaceAction) → BlockNo → (own : List SpaceAction) → (end : ℕ) → List (List Attempt) → Type 0
-AreTrueRounds r finds before b own end [] = ⊤
-AreTrueRounds r finds before b own end (attempts ∷ rounds) =
-    (begin : ℕ)
-    × (begin ≤ end)
-    × AllByRecursion (IsTrueAttempt r finds before b own rounds begin end) attempts
-    × AreTrueRounds r finds before b own begin rounds
-
 -- ---- by where the evacuation stands
 
--- the target of the lease is the last that the driver leased
-pub record IsTrueMoving (r : SpaceRun) (before : List SpaceAction) (b : BlockNo) (own : List SpaceAction) (begin : ℕ) (lease : MoveLease) : Type 0 where
-  pub at : IsTrueLease r before b own begin (length r.journal) lease
-  pub last : suc (take_at r at.place) ≡ targets_in (before ++ own)
+-- Behind the attempts of the round the page of the lease was out in its frame, and its target was leased, the last one that the
+-- driver leased.
+pub record IsTrueMoving (r : SpaceRun) (before : List SpaceAction) (b : BlockNo) (own : List SpaceAction) (from : ℕ) (lease : MoveLease) : Type 0 where
+  pub place : ℕ
+  pub behind : from ≤ place
+  pub tried : WasTriedAt r before b own lease.from lease.page lease.target place
+  pub last : suc (take_number_at r place) ≡ targets_in (before ++ own)
 
--- with the rounds before the one under way, and the place of the journal at which that one began
-abbrev pub IsTrueAt : SpaceRun → Finds → (before : List SpaceAction) → BlockNo → (own : List SpaceAction) → List (List Attempt) → (begin : ℕ) → Stage → Type 0
-IsTrueAt r finds before b own rounds begin stages.Isolating = ⊤
-IsTrueAt r finds before b own rounds begin (stages.Leasing after) = ⊤
-IsTrueAt r finds before b own rounds begin (stages.Moving lease) = IsTrueMoving r before b own begin lease
-IsTrueAt r finds before b own rounds begin (stages.Returning a) = IsTrueAttempt r finds before b own rounds begin (length r.journal) a
-IsTrueAt r finds before b own rounds begin (stages.Undoing cause) = IsCauseTrue r finds before b own cause
-IsTrueAt r finds before b own rounds begin stages.Emptied = ⊤
-IsTrueAt r finds before b own rounds begin (stages.Failed cause) = IsCauseTrue r finds before b own cause
+-- the attempt whose frame is to be given back was made behind those of the round
+pub record IsTrueReturning (r : SpaceRun) (finds : Finds) (before : List SpaceAction) (b : BlockNo) (own : List SpaceAction) (rounds : List (List Attempt)) (from : ℕ) (a : Attempt) : Type 0 where
+  pub place : ℕ
+  pub behind : from ≤ place
+  pub attempt : IsTrueAttempt r finds before b own rounds a place
 
--- Behind what the driver had done before, the evacuation did what its log says, and what it was told is true.
+-- with the rounds before the one under way, and the place of the journal before which its attempts were made
+abbrev pub IsTrueAt : SpaceRun → Finds → (before : List SpaceAction) → BlockNo → (own : List SpaceAction) → List (List Attempt) → (from : ℕ) → Stage → Type 0
+IsTrueAt r finds before b own rounds from stages.Isolating = ⊤
+IsTrueAt r finds before b own rounds from (stages.Leasing after) = ⊤
+IsTrueAt r finds before b own rounds from (stages.Moving lease) = IsTrueMoving r before b own from lease
+IsTrueAt r finds before b own rounds from (stages.Returning a) = IsTrueReturning r finds before b own rounds from a
+IsTrueAt r finds before b own rounds from (stages.Undoing cause) = IsCauseTrue r finds before b own cause
+IsTrueAt r finds before b own rounds from stages.Emptied = ⊤
+IsTrueAt r finds before b own rounds from (stages.Failed cause) = IsCauseTrue r finds before b own cause
+
+-- Behind what the driver had done before, the evacuation did what its log says, and what it was told is true: the attempts that
+-- count were made before a place of the journal.
 pub record HasToldTrue (c : Setting) (w : World) (e : Evacuating) (t : Tale) : Type 0 where
   pub before : List SpaceAction
   pub did : actions_of 0 w.space ≡ before ++ evacuation_did e t
-  pub rounds : AreTrueRounds (space_run c w) (DriverFound w) before e.block (evacuation_did e t) (length w.space) (t.attempts ∷ t.rounds)
-  pub stage : IsTrueAt (space_run c w) (DriverFound w) before e.block (evacuation_did e t) t.rounds rounds.0 e.stage
+  pub end : ℕ
+  pub inside : end ≤ length w.space
+  pub rounds : AreTrueRounds (space_run c w) (DriverFound w) before e.block (evacuation_did e t) end (t.attempts ∷ t.rounds)
+  pub stage : IsTrueAt (space_run c w) (DriverFound w) before e.block (evacuation_did e t) t.rounds end e.stage
 
 -- the word was found by the take of the last lease of a target
 pub record IsFoundLast (w : World) (rounds : List (List Attempt)) (page : PageNo) (word : ℕ) : Type 0 where
@@ -130,7 +103,7 @@ abbrev pub IsTruePlace : Setting → World → HostState → Tale → HostPlace 
 IsTruePlace c w h t places.Asking = ⊤
 IsTruePlace c w h t places.Evacuating = HasToldTrue c w h.evacuation t
 IsTruePlace c w h t (places.Moving lease at) = HasToldTrue c w h.evacuation t × IsTrueMove w t lease at
-IsTruePlace c w h t places.TakingAway = ⊤
+IsTruePlace c w h t places.TakingAway = HasToldTrue c w h.evacuation t
 IsTruePlace c w h t (places.Zeroing frame cell) = ⊤
 IsTruePlace c w h t (places.MarkingZeros frame) = ⊤
 IsTruePlace c w h t (places.PuttingOnline result) = ⊤

@@ -6,3 +6,6 @@ pub mod Undone
 pub mod Small
 pub mod TruthGrows
 pub mod TruthSmall
+pub mod TriedSmall
+pub mod TruthRows
+pub mod Leases

@@ -46,7 +46,7 @@ empty block = record {
 }
 
 -- page 0 was moved
-pub moved : WasEvacuated plugged_machine (block_no 3) None (isolate 3 ∷ attempt 20)
+abbrev pub moved : WasEvacuated plugged_machine (block_no 3) None (isolate 3 ∷ attempt 20)
 moved = record {
   evacuation = ended 3 0 None no_words None;
   tale = record { rounds = []; attempts = record { lease = page_0; found = None } ∷ [] };
@@ -69,7 +69,7 @@ moved = record {
 -- ---- failed
 
 -- page 0 was found pinned
-pub pinned_found : WasEvacuated plugged_machine (block_no 3) (Some pinned) (isolate 3 ∷ (attempt 0 ++ undo 3 ∷ []))
+abbrev pub pinned_found : WasEvacuated plugged_machine (block_no 3) (Some pinned) (isolate 3 ∷ (attempt 0 ++ undo 3 ∷ []))
 pinned_found = record {
   evacuation = ended 3 0 None no_words (Some pinned);
   tale = record { rounds = []; attempts = record { lease = page_0; found = Some 1073762324 } ∷ [] };
@@ -138,7 +138,7 @@ without_target = record {
 }
 
 -- the isolation was refused
-pub refused : WasEvacuated plugged_machine (block_no 2) (Some unmovable) []
+abbrev pub refused : WasEvacuated plugged_machine (block_no 2) (Some unmovable) []
 refused = record {
   evacuation = ended 2 0 None no_words (Some unmovable);
   tale = nothing_tried;
@@ -162,16 +162,16 @@ refused = record {
 abbrev pub busy_round : List Attempt
 busy_round = found_busy 20485 ∷ []
 
-found_again : WasFound busy_round (frame_no 20) (page_no 0) 20485
+pub found_again : WasFound busy_round (frame_no 20) (page_no 0) 20485
 found_again = record { target = frame_no 0; there = (0, omega arith, refl) }
 
-busy_again : WasBusy busy_round (frame_no 20) (page_no 0)
+pub busy_again : WasBusy busy_round (frame_no 20) (page_no 0)
 busy_again = (20485, found_again)
 
-one_round : IsRound plugged_machine (block_no 3) busy_round
+pub one_round : IsRound plugged_machine (block_no 3) busy_round
 one_round = record { in_order = (refl, tt); moved_or_busy = (refl, tt); one_busy = refl }
 
-pub busy_in_five : WasEvacuated plugged_machine (block_no 3) (Some busy) (isolate 3 ∷ (attempt 0 ++ (attempt 0 ++ (attempt 0 ++ (attempt 0 ++ (attempt 0 ++ undo 3 ∷ []))))))
+abbrev pub busy_in_five : WasEvacuated plugged_machine (block_no 3) (Some busy) (isolate 3 ∷ (attempt 0 ++ (attempt 0 ++ (attempt 0 ++ (attempt 0 ++ (attempt 0 ++ undo 3 ∷ []))))))
 busy_in_five = record {
   evacuation = ended 3 4 (Some page_0) five_words (Some busy);
   tale = record { rounds = busy_round ∷ busy_round ∷ busy_round ∷ busy_round ∷ []; attempts = busy_round };

@@ -25,10 +25,11 @@ use Rattle.evac_model.specs.Numbers.{is_in}
 use Rattle.evac_model.specs.Pairing.{actions_of}
 use Rattle.evac_model.specs.SpaceJournal.{SpaceState, IsLeasable, out_for, space_after}
 use Rattle.core_state.proofs.Lists.{at_longer}
+use Rattle.evacuate.specs.declared.stage.Attempt.{Attempt}
 use Rattle.host_work.specs.Commands.{IsDoneBy, AreDoneBy}
 use Rattle.host_work.specs.Evacuated.{WasEvacuated}
 use Rattle.host_work.specs.Requests.{Evacuates, block_no, blocks_to_empty, AreTakenAway, WasSent, WasNotSent}
-use Rattle.host_work.specs.Truth.{SpaceRun, stood, driver_did, is_target, targets_in, take_at, Finds, WasOutAt, WasTriedAt, WasFoundAt, UnmovableHolds, NoTargetHolds, AreFoundFrom, HoldsFor, IsCauseTrue, HasTrueCause, by_truth}
+use Rattle.host_work.specs.Truth.{SpaceRun, stood, driver_did, is_target, targets_in, take_number_at, Finds, WasOutAt, WasTriedAt, WasFoundAt, UnmovableHolds, NoTargetHolds, AreFoundFrom, HoldsFor, IsCauseTrue, HasTrueCause, IsFoundBehind, IsTrueAttempt, AreTrueAttempts, AreTrueRounds, by_truth}
 
 -- the same frame space with more in its journal
 abbrev pub grown : SpaceRun → List SpaceAction → SpaceRun
@@ -47,8 +48,8 @@ module _ (r : SpaceRun) (more : List SpaceAction) (place : ℕ) (inside : place 
   pub did_grown : driver_did (grown r more) place ≡ driver_did r place
   did_grown = ap (λ (l : List SpaceAction). actions_of 0 l) (take-append-le place r.journal more inside)
 
-  pub take_at_grown : take_at (grown r more) place ≡ take_at r place
-  take_at_grown = ap (λ (l : List SpaceAction). targets_in l) did_grown
+  pub take_number_at_grown : take_number_at (grown r more) place ≡ take_number_at r place
+  take_number_at_grown = ap (λ (l : List SpaceAction). targets_in l) did_grown
 
   pub inside_grown : place ≤ length (r.journal ++ more)
   inside_grown = omega (arith, inside, length-append r.journal more)
@@ -101,7 +102,7 @@ module _ (r : SpaceRun) (more : List SpaceAction) (F G : Finds) (finds : FindsMo
   was_found_grown own own_more frame page word place h = record {
     target = h.target;
     tried = was_tried_grown r more before b own own_more frame page h.target place h.tried;
-    found = subst (λ (number : ℕ). G number page word) (sym (take_at_grown r more place h.tried.was_out.inside)) (finds (take_at r place) page word h.found);
+    found = subst (λ (number : ℕ). G number page word) (sym (take_number_at_grown r more place h.tried.was_out.inside)) (finds (take_number_at r place) page word h.found);
   }
 
   are_found_grown : (own own_more : List SpaceAction) (frame : FrameNo) (page : PageNo) (from : ℕ) (words : List ℕ) → AreFoundFrom r F before b own frame page from words → AreFoundFrom (grown r more) G before b (own ++ own_more) frame page from words
@@ -136,6 +137,48 @@ pub found_from : (r : SpaceRun) (finds : Finds) (before : List SpaceAction) (b :
 found_from r finds before b own frame page early late below [] all = tt
 found_from r finds before b own frame page early late below (word ∷ words) all = (all.0, omega (arith, below, all.1), all.2, all.3, all.4)
 
+-- ---- attempts
+
+module _ (r : SpaceRun) (more : List SpaceAction) (F G : Finds) (finds : FindsMore F G) (before : List SpaceAction) (b : BlockNo) (own own_more : List SpaceAction) where
+  behind_grown : (rounds : List (List Attempt)) (page : PageNo) (word place : ℕ) → place ≤ length r.journal → IsFoundBehind F (take_number_at r place) rounds page word → IsFoundBehind G (take_number_at (grown r more) place) rounds page word
+  behind_grown rounds page word place inside h = record {
+    found = subst (λ (number : ℕ). G number page word) (sym (take_number_at_grown r more place inside)) (finds (take_number_at r place) page word h.found);
+    late = h.late;
+  }
+
+  pub attempt_grown : (rounds : List (List Attempt)) (a : Attempt) (place : ℕ) → IsTrueAttempt r F before b own rounds a place → IsTrueAttempt (grown r more) G before b (own ++ own_more) rounds a place
+  attempt_grown rounds a place h = record {
+    tried = was_tried_grown r more before b own own_more a.lease.from a.lease.page a.lease.target place h.tried;
+    word = λ word some. behind_grown rounds a.lease.page word place h.tried.was_out.inside (h.word word some);
+  }
+
+  pub attempts_grown : (rounds : List (List Attempt)) (begin end : ℕ) (attempts : List Attempt) → AreTrueAttempts r F before b own rounds begin end attempts → AreTrueAttempts (grown r more) G before b (own ++ own_more) rounds begin end attempts
+  attempts_grown rounds begin end [] all = all
+  attempts_grown rounds begin end (a ∷ attempts) all = (
+    all.0,
+    all.1,
+    attempt_grown rounds a all.0 all.2,
+    attempts_grown rounds begin all.0 attempts all.3,
+  )
+
+  pub rounds_grown : (end : ℕ) (rounds : List (List Attempt)) → AreTrueRounds r F before b own end rounds → AreTrueRounds (grown r more) G before b (own ++ own_more) end rounds
+  rounds_grown end [] all = tt
+  rounds_grown end (attempts ∷ rounds) all = (
+    all.0,
+    attempts_grown rounds all.0 end attempts all.1,
+    rounds_grown all.0 rounds all.2,
+  )
+
+module _ (r : SpaceRun) (finds : Finds) (before : List SpaceAction) (b : BlockNo) (own : List SpaceAction) where
+  -- what was made before a place was made before a later one
+  pub attempts_later : (rounds : List (List Attempt)) (begin end later : ℕ) → end ≤ later → (attempts : List Attempt) → AreTrueAttempts r finds before b own rounds begin end attempts → AreTrueAttempts r finds before b own rounds begin later attempts
+  attempts_later rounds begin end later below [] all = omega (arith, below, all)
+  attempts_later rounds begin end later below (a ∷ attempts) all = (all.0, omega (arith, below, all.1), all.2, all.3)
+
+  pub rounds_later : (end later : ℕ) → end ≤ later → (rounds : List (List Attempt)) → AreTrueRounds r finds before b own end rounds → AreTrueRounds r finds before b own later rounds
+  rounds_later end later below [] all = tt
+  rounds_later end later below (attempts ∷ rounds) all = (all.0, attempts_later rounds all.0 end later below attempts all.1, all.2)
+
 -- ---- an evacuation
 
 pub cause_grown : (r : SpaceRun) (more : List SpaceAction) (F G : Finds) → FindsMore F G → (before : List SpaceAction) (b : BlockNo) (cause : Option EvacCause) (own : List SpaceAction) → HasTrueCause r F before b own cause → HasTrueCause (grown r more) G before b own cause
@@ -143,8 +186,18 @@ cause_grown r more F G finds before b None own h = tt
 cause_grown r more F G finds before b (Some cause) own h =
     subst (λ (l : List SpaceAction). IsCauseTrue (grown r more) G before b l cause) (append-nil own) (true_grown r more F G finds before b own [] cause h)
 
+-- all that was made in a journal was made in a longer one
+made_grown : (r : SpaceRun) (more : List SpaceAction) (F G : Finds) → FindsMore F G → (before : List SpaceAction) (b : BlockNo) (own : List SpaceAction) (rounds : List (List Attempt)) → AreTrueRounds r F before b own (length r.journal) rounds → AreTrueRounds (grown r more) G before b own (length (r.journal ++ more)) rounds
+made_grown r more F G finds before b own rounds h =
+    rounds_later (grown r more) G before b own (length r.journal) (length (r.journal ++ more)) (omega (arith, length-append r.journal more)) rounds
+    (subst (λ (l : List SpaceAction). AreTrueRounds (grown r more) G before b l (length r.journal) rounds) (append-nil own) (rounds_grown r more F G finds before b own [] (length r.journal) rounds h))
+
 pub truth_grown : (r : SpaceRun) (more : List SpaceAction) (F G : Finds) → FindsMore F G → (before : List SpaceAction) (b : BlockNo) (cause : Option EvacCause) (own : List SpaceAction) → by_truth r F before b cause own → by_truth (grown r more) G before b cause own
-truth_grown r more F G finds before b cause own h = (h.0, cause_grown r more F G finds before b cause own h.1)
+truth_grown r more F G finds before b cause own h = record {
+  told = h.told;
+  attempts = made_grown r more F G finds before b own (h.told.tale.attempts ∷ h.told.tale.rounds) h.attempts;
+  met = cause_grown r more F G finds before b cause own h.met;
+}
 
 not_grown : (r : SpaceRun) → grown r [] ≡ r
 not_grown r = ap (λ (l : List SpaceAction). record r { journal = l }) (append-nil r.journal)
@@ -154,9 +207,9 @@ pub truth_found : (r : SpaceRun) (F G : Finds) → FindsMore F G → (before : L
 truth_found r F G finds before b cause own h =
     subst (λ (x : SpaceRun). by_truth x G before b cause own) (not_grown r) (truth_grown r [] F G finds before b cause own h)
 
--- an evacuation that met a true cause, or none, went by a tale
+-- an evacuation that is true went by its tale
 pub done_by_tale : (r : SpaceRun) (F : Finds) (before : List SpaceAction) (b : BlockNo) (cause : Option EvacCause) (own : List SpaceAction) → by_truth r F before b cause own → WasEvacuated r.sizes b cause own
-done_by_tale r F before b cause own h = h.0
+done_by_tale r F before b cause own h = h.told
 
 -- ---- commands
 

@@ -1,5 +1,5 @@
 -- Causes of a small machine's failed evacuations that are true, and some that aren't.
-use Rattle.std.proofs.Common.{◌≡◌, ℕ, zero, suc, ◌<◌, ◌≤◌, true, false, List, [], ◌∷◌, ◌++◌, length, replicate, get_or, refl, sym, ap, ◌∙◌, subst, arith, inl, inr, None, Some}
+use Rattle.std.proofs.Common.{◌≡◌, ℕ, zero, suc, ◌+◌, ◌<◌, ◌≤◌, true, false, List, [], ◌∷◌, ◌++◌, length, replicate, get_or, refl, sym, ap, ◌∙◌, subst, arith, inl, inr, None, Some}
 use Rattle.std.proofs.lemmas.Option.{same_Some}
 use Rattle.std.specs.FinMap.{gets}
 use Rattle.std.specs.Prelude.{slice_get}
@@ -23,8 +23,7 @@ use Rattle.host_work.specs.Examples.{plugged_machine, isolate, undo, attempt, pi
 use Rattle.host_work.specs.FoundWords.{page_before}
 use Rattle.host_work.specs.Requests.{block_no}
 use Rattle.host_work.specs.Truth.{SpaceRun, stood, driver_did, targets_in, WasTriedAt, WasFoundAt, AreFoundFrom, IsCauseTrue}
-use Rattle.host_work.specs.TruthExamples.{start_with, run_with, pin_and_unpin, word_of_calls, first_take, one_attempt, five_attempts, not_leased, block_3_emptied, IsTrueBy, run_of_two, full_actions, full_run, no_target_in_full, pinned_by, busy_by, taken_at_first, taken_behind_pin, taken_behind_all, pinned_behind_pin, pinned_at_first, pinned_in_21, CausesOfSmall}
-use Rattle.host_work.proofs.Small.{pinned_found, busy_in_five, refused}
+use Rattle.host_work.specs.TruthExamples.{start_with, run_with, pin_and_unpin, word_of_calls, first_take, one_attempt, five_attempts, not_leased, block_3_emptied, IsTrueBy, run_of_two, full_actions, full_run, no_target_in_full, pinned_by, busy_by, taken_at_first, taken_behind_pin, taken_behind_all, pinned_behind_pin, pinned_at_first, pinned_in_21}
 
 -- ---- the words
 
@@ -88,7 +87,7 @@ another_page h = elim h.bound_is [
 -- ---- true causes
 
 -- the target was leased right behind the isolation, whatever the journal has behind the evacuation
-tried_first : (more : List SpaceAction) → WasTriedAt (run_with Unmovable (one_attempt ++ more)) [] (block_no 3) one_attempt (frame_no 20) (page_no 0) (frame_no 0) 1
+pub tried_first : (more : List SpaceAction) → WasTriedAt (run_with Unmovable (one_attempt ++ more)) [] (block_no 3) one_attempt (frame_no 20) (page_no 0) (frame_no 0) 1
 tried_first more = record {
   was_out = record { inside = omega arith; part = isolate 3 ∷ []; rest = attempt 0 ++ undo 3 ∷ []; parts = refl; done = refl; isolated = refl; out = refl };
   more = Return 0 (frame_no 0) ∷ undo 3 ∷ [];
@@ -114,7 +113,7 @@ first_found = record {
 abbrev in_20 : Out
 in_20 = record { page = 0; kind = Movable }
 
-abbrev five_run : SpaceRun
+abbrev pub five_run : SpaceRun
 five_run = run_with Unmovable five_attempts
 
 -- so many attempts
@@ -122,54 +121,59 @@ abbrev attempts : ℕ → List SpaceAction
 attempts zero = []
 attempts (suc n) = attempt 0 ++ attempts n
 
--- a word was found by the attempt at that place, with these actions before it and these behind it
-found_in_five : (place : ℕ) (part behind : List SpaceAction) → place ≤ length five_attempts
+-- a target was leased for page 0 at a place of the journal of five attempts
+abbrev pub IsTriedInFive : ℕ → Type 0
+IsTriedInFive place = WasTriedAt five_run [] (block_no 3) five_attempts (frame_no 20) (page_no 0) (frame_no 0) place
+
+-- with these actions before it and these behind it
+tried_with : (place : ℕ) (part behind : List SpaceAction) → place ≤ length five_attempts
     → five_attempts ≡ part ++ (attempt 0 ++ behind)
     → driver_did five_run place ≡ part
     → is_in 3 (stood five_run place).isolated ≡ true
     → out_for (stood five_run place) 20 ≡ Some in_20
     → slice_get five_attempts place ≡ Some (MoveLease (frame_no 0) (page_no 0))
-    → WasFoundAt five_run word_of_calls [] (block_no 3) five_attempts (frame_no 20) (page_no 0) taken_at_first place
-found_in_five place part behind inside parts done isolated out leased = record {
-  target = frame_no 0;
-  tried = record {
-    was_out = record { inside = inside; part = part; rest = attempt 0 ++ behind; parts = parts; done = done; isolated = isolated; out = out };
-    more = Return 0 (frame_no 0) ∷ behind;
-    next = refl;
-    leased = leased;
-  };
-  found = taken_word;
+    → IsTriedInFive place
+tried_with place part behind inside parts done isolated out leased = record {
+  was_out = record { inside = inside; part = part; rest = attempt 0 ++ behind; parts = parts; done = done; isolated = isolated; out = out };
+  more = Return 0 (frame_no 0) ∷ behind;
+  next = refl;
+  leased = leased;
 }
+
+-- the attempt of that number
+pub tried_in_five : (n : ℕ) → n < 5 → IsTriedInFive (suc (n + n))
+tried_in_five zero l = tried_with 1 (isolate 3 ∷ attempts 0) (attempts 4 ++ undo 3 ∷ []) (omega arith) refl refl refl refl refl
+tried_in_five (suc zero) l = tried_with 3 (isolate 3 ∷ attempts 1) (attempts 3 ++ undo 3 ∷ []) (omega arith) refl refl refl refl refl
+tried_in_five (suc (suc zero)) l = tried_with 5 (isolate 3 ∷ attempts 2) (attempts 2 ++ undo 3 ∷ []) (omega arith) refl refl refl refl refl
+tried_in_five (suc (suc (suc zero))) l = tried_with 7 (isolate 3 ∷ attempts 3) (attempts 1 ++ undo 3 ∷ []) (omega arith) refl refl refl refl refl
+tried_in_five (suc (suc (suc (suc zero)))) l = tried_with 9 (isolate 3 ∷ attempts 4) (attempts 0 ++ undo 3 ∷ []) (omega arith) refl refl refl refl refl
+tried_in_five (suc (suc (suc (suc (suc n))))) l = absurd (omega (arith, l))
+
+-- it found the word
+found_in_five : (n : ℕ) → n < 5 → WasFoundAt five_run word_of_calls [] (block_no 3) five_attempts (frame_no 20) (page_no 0) taken_at_first (suc (n + n))
+found_in_five n l = record { target = frame_no 0; tried = tried_in_five n l; found = taken_word }
 
 -- the five words, each of an attempt of its own, behind the one before
 five_found : AreFoundFrom five_run word_of_calls [] (block_no 3) five_attempts (frame_no 20) (page_no 0) 0 (replicate 5 taken_at_first)
-five_found =
-    let behind : ℕ → List SpaceAction = λ n. attempts n ++ undo 3 ∷ [] in
-    let before : ℕ → List SpaceAction = λ n. isolate 3 ∷ attempts n in (
-      1,
+five_found = (
+  1,
+  omega arith,
+  found_in_five 0 (omega arith),
+  refl,
+  (
+    3,
+    omega arith,
+    found_in_five 1 (omega arith),
+    refl,
+    (
+      5,
       omega arith,
-      found_in_five 1 (before 0) (behind 4) (omega arith) refl refl refl refl refl,
+      found_in_five 2 (omega arith),
       refl,
-      (
-        3,
-        omega arith,
-        found_in_five 3 (before 1) (behind 3) (omega arith) refl refl refl refl refl,
-        refl,
-        (
-          5,
-          omega arith,
-          found_in_five 5 (before 2) (behind 2) (omega arith) refl refl refl refl refl,
-          refl,
-          (
-            7,
-            omega arith,
-            found_in_five 7 (before 3) (behind 1) (omega arith) refl refl refl refl refl,
-            refl,
-            (9, omega arith, found_in_five 9 (before 4) (behind 0) (omega arith) refl refl refl refl refl, refl, tt),
-          ),
-        ),
-      ),
-    )
+      (7, omega arith, found_in_five 3 (omega arith), refl, (9, omega arith, found_in_five 4 (omega arith), refl, tt)),
+    ),
+  ),
+)
 
 -- all have the bound 0
 level : (i d : ℕ) → i < 5 → get_or (replicate 5 0) i d ≡ 0
@@ -209,7 +213,7 @@ had_no_target = record {
   };
 }
 
-pub without_target_in_full : WasEvacuated full (block_no 0) (Some (no_target_in_full 1)) full_actions
+abbrev pub without_target_in_full : WasEvacuated full (block_no 0) (Some (no_target_in_full 1)) full_actions
 without_target_in_full = record {
   evacuation = record { sizes = full; block = block_no 0; stage = end_by (Some (no_target_in_full 1)); round = 0; busy = None; words = replicate 5 0 ∷ [] };
   tale = nothing_tried;
@@ -311,7 +315,7 @@ pub not_tried : ¬ IsTrueBy not_leased pinned
 not_tried h = none_leased h.holds.place h.holds.found.target (page_no 0) h.holds.found.tried.leased
 
 -- a target was leased at one place alone
-leased_once : (place : ℕ) (target : FrameNo) (page : PageNo) → slice_get one_attempt place ≡ Some (MoveLease target page) → place ≡ 1
+pub leased_once : (place : ℕ) (target : FrameNo) (page : PageNo) → slice_get one_attempt place ≡ Some (MoveLease target page) → place ≡ 1
 leased_once zero target page is = absurd (cc)
 leased_once (suc zero) target page is = refl
 leased_once (suc (suc zero)) target page is = absurd (cc)
@@ -332,32 +336,3 @@ second_not_found h =
     let at = h.holds.found.tried.was_out in
     let number : suc (targets_in at.part) ≡ 0 = sym (ap (λ (l : List SpaceAction). targets_in l) at.done) ∙ h.holds.found.found in
     absurd (omega (arith, number))
-
--- ---- the rows
-
-pub causes_of_small : CausesOfSmall
-causes_of_small = record {
-  pinned_page = (pinned_found, was_pinned);
-  five_busy_rounds = (busy_in_five, was_busy);
-  unmovable_behind_an_emptied_block = (refused, was_unmovable);
-  no_target_left = (without_target_in_full, had_no_target);
-  no_call_behind_it = no_call_behind;
-  pin_of_no_call = pin_of_none;
-  word_of_another_page = another_page;
-  pinned_by_no_call = pinned_by_none;
-  in_another_frame = another_frame;
-  in_another_block = another_block;
-  four_words = four;
-  falling_bounds = falling;
-  busy_for_no_call = busy_for_none;
-  movable_page = was_movable;
-  with_a_free_frame = frame_was_free;
-  before_the_isolation = not_begun;
-  behind_the_undo = was_undone;
-  past_the_journal = past_all;
-  in_an_earlier_evacuation = too_early;
-  without_an_attempt = not_tried;
-  five_words_of_one_attempt = one_word;
-  found_in_the_first_evacuation = first_found;
-  not_found_in_the_second = second_not_found;
-}

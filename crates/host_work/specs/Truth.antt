@@ -1,5 +1,7 @@
--- When the cause of a failed evacuation is true of the frame space's journal, and of the words that the driver's takes found.
-use Rattle.std.specs.Prelude.{◌≡◌, ◌≤◌, ℕ, suc, Bool, true, false, List, [], ◌∷◌, ◌++◌, length, map, filter, take, slice_get, Option, None, Some, ⊤}
+-- When what an evacuation was told is true of the frame space's journal and of the words that the driver's takes found, each of its
+-- attempts, and the cause for which it failed.
+use Rattle.std.specs.Prelude.{◌≡◌, ◌<◌, ◌≤◌, ℕ, suc, Bool, true, false, List, [], ◌∷◌, ◌++◌, length, map, filter, take, slice_get, Option, None, Some, ⊤}
+use Rattle.std.specs.List.{AllByRecursion, sum_by}
 use Rattle.std.specs.List.Sorted.{IsNonDecreasing}
 use Rattle.evac_model.specs.declared.evacuation.EvacCause.{EvacCause}
 use Rattle.evac_model.specs.declared.evacuation.EvacCause.TheVariants.{Unmovable, Pinned, NoTarget, Busy}
@@ -16,6 +18,7 @@ use Rattle.evac_model.specs.Pairing.{actions_of}
 use Rattle.evac_model.specs.SpaceJournal.{SpaceState, IsLeasable, out_for, is_frame_of, space_after}
 use Rattle.evac_words.specs.Word.{bound_of}
 use Rattle.evacuate.specs.Causes.{frame_of_cause}
+use Rattle.evacuate.specs.declared.stage.Attempt.{Attempt}
 use Rattle.evacuate.specs.Found.{is_busy, is_pinned}
 use Rattle.host_work.specs.Evacuated.{WasEvacuated}
 use Rattle.host_work.specs.Requests.{Evacuates}
@@ -46,8 +49,8 @@ targets_in actions = length (filter is_target actions)
 
 -- The driver takes a page once for each target that it leases, and so its takes are numbered as these leases are, from 0. This is
 -- the number of the one for which a target is leased at that place.
-abbrev pub take_at : SpaceRun → (place : ℕ) → ℕ
-take_at r place = targets_in (driver_did r place)
+abbrev pub take_number_at : SpaceRun → (place : ℕ) → ℕ
+take_number_at r place = targets_in (driver_did r place)
 
 -- what is said of an entry word that the driver's take of that number found for a page
 abbrev pub Finds : Type 1
@@ -77,7 +80,7 @@ pub record WasTriedAt (r : SpaceRun) (before : List SpaceAction) (b : BlockNo) (
 pub record WasFoundAt (r : SpaceRun) (finds : Finds) (before : List SpaceAction) (b : BlockNo) (own : List SpaceAction) (frame : FrameNo) (page : PageNo) (word place : ℕ) : Type 0 where
   pub target : FrameNo
   pub tried : WasTriedAt r before b own frame page target place
-  pub found : finds (take_at r place) page word
+  pub found : finds (take_number_at r place) page word
 
 -- ---- the causes
 
@@ -132,6 +135,53 @@ abbrev pub HasTrueCause : SpaceRun → Finds → (before : List SpaceAction) →
 HasTrueCause r finds before b own None = ⊤
 HasTrueCause r finds before b own (Some cause) = IsCauseTrue r finds before b own cause
 
--- An evacuation of the block went by a tale of what it was told, to its end, and a cause that it failed for is true.
+-- ---- all attempts of an evacuation
+
+-- how many attempts these rounds made
+abbrev pub tried_in : List (List Attempt) → ℕ
+tried_in rounds = sum_by (λ (attempts : List Attempt). length attempts) rounds
+
+-- no word that was found for the page in these rounds has a bound above that of this one
+abbrev pub IsNotAbove : PageNo → (word : ℕ) → Attempt → Type 0
+IsNotAbove page word a = (old : ℕ) → a.lease.page ≡ page → a.found ≡ Some old → bound_of old ≤ bound_of word
+
+abbrev pub AreNotAbove : List (List Attempt) → PageNo → (word : ℕ) → Type 0
+AreNotAbove rounds page word = AllByRecursion (AllByRecursion (IsNotAbove page word)) rounds
+
+-- the take of that number found the word for the page, behind those of the rounds before
+pub record IsFoundBehind (finds : Finds) (number : ℕ) (rounds : List (List Attempt)) (page : PageNo) (word : ℕ) : Type 0 where
+  pub found : finds number page word
+  pub late : AreNotAbove rounds page word
+
+-- At that place the page of the attempt was out in its frame, and its target was leased; and the word that is said to be found for
+-- it was found by the take of that lease, behind those of the rounds before.
+pub record IsTrueAttempt (r : SpaceRun) (finds : Finds) (before : List SpaceAction) (b : BlockNo) (own : List SpaceAction) (rounds : List (List Attempt)) (a : Attempt) (place : ℕ) : Type 0 where
+  pub tried : WasTriedAt r before b own a.lease.from a.lease.page a.lease.target place
+  pub word : (word : ℕ) → a.found ≡ Some word → IsFoundBehind finds (take_number_at r place) rounds a.lease.page word
+
+-- The attempts of a round, the newest first, each at a place of its own, from `begin` on and before `end`.
+abbrev pub AreTrueAttempts : SpaceRun → Finds → (before : List SpaceAction) → BlockNo → (own : List SpaceAction) → List (List Attempt) → (begin end : ℕ) → List Attempt → Type 0
+AreTrueAttempts r finds before b own rounds begin end [] = begin ≤ end
+AreTrueAttempts r finds before b own rounds begin end (a ∷ attempts) =
+    (place : ℕ)
+    × (place < end)
+    × IsTrueAttempt r finds before b own rounds a place
+    × AreTrueAttempts r finds before b own rounds begin place attempts
+
+-- Rounds, the newest first, before `end`. Each has a part of the journal of its own, behind those of the rounds before.
+abbrev pub AreTrueRounds : SpaceRun → Finds → (before : List SpaceAction) → BlockNo → (own : List SpaceAction) → (end : ℕ) → List (List Attempt) → Type 0
+AreTrueRounds r finds before b own end [] = ⊤
+AreTrueRounds r finds before b own end (attempts ∷ rounds) =
+    (begin : ℕ)
+    × AreTrueAttempts r finds before b own rounds begin end attempts
+    × AreTrueRounds r finds before b own begin rounds
+
+-- An evacuation of the block went by a tale of what it was told, to its end. Each attempt of the tale was made, at a place of the
+-- journal of its own, in the tale's order, and found what is told of it; and a cause that the evacuation failed for is true.
+pub record WasTrulyEvacuated (r : SpaceRun) (finds : Finds) (before : List SpaceAction) (b : BlockNo) (cause : Option EvacCause) (own : List SpaceAction) : Type 0 where
+  pub told : WasEvacuated r.sizes b cause own
+  pub attempts : AreTrueRounds r finds before b own (length r.journal) (told.tale.attempts ∷ told.tale.rounds)
+  pub met : HasTrueCause r finds before b own cause
+
 abbrev pub by_truth : SpaceRun → Finds → Evacuates
-by_truth r finds before b cause own = WasEvacuated r.sizes b cause own × HasTrueCause r finds before b own cause
+by_truth r finds before b cause own = WasTrulyEvacuated r finds before b cause own

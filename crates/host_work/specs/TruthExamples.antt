@@ -1,5 +1,5 @@
--- Causes of failed evacuations of a small machine that are true, and some that aren't, worked out by hand.
-use Rattle.std.specs.Prelude.{◌≡◌, ℕ, List, [], ◌∷◌, ◌++◌, replicate, Some}
+-- Evacuations of a small machine of which all that they were told is true, and some of which it isn't, worked out by hand.
+use Rattle.std.specs.Prelude.{◌≡◌, ℕ, List, [], ◌∷◌, ◌++◌, length, map, replicate, slice_get, None, Some}
 use Rattle.evac_model.specs.declared.call.Call.TheVariants.{Pin, Unpin}
 use Rattle.evac_model.specs.declared.entry.Entry.{Entry}
 use Rattle.evac_model.specs.declared.evacuation.EvacCause.{EvacCause}
@@ -12,11 +12,12 @@ use Rattle.evac_model.specs.declared.space.SpaceAction.{SpaceAction}
 use Rattle.evac_model.specs.PairingExamples.{entry, start_page, full, full_start}
 use Rattle.evac_model.specs.SpaceJournal.{space_at_start}
 use Rattle.evac_model.specs.State.{start_state}
-use Rattle.evacuate.specs.Examples.{frame_no, page_no}
+use Rattle.evacuate.specs.declared.stage.Attempt.{Attempt}
+use Rattle.evacuate.specs.Examples.{frame_no, page_no, lease_of, found_busy}
 use Rattle.host_work.specs.Examples.{plugged_machine, isolate, undo, offline, online, attempt, pinned, no_target, busy, unmovable}
 use Rattle.host_work.specs.FoundWords.{AreWordsOf}
 use Rattle.host_work.specs.Requests.{block_no}
-use Rattle.host_work.specs.Truth.{SpaceRun, Finds, IsCauseTrue, by_truth}
+use Rattle.host_work.specs.Truth.{SpaceRun, Finds, IsCauseTrue, AreTrueRounds, by_truth}
 
 -- page 0 lies in frame 20, of block 3, and page 7, of that kind, in frame 16, of block 2
 abbrev pub start_with : Kind → List StartPage
@@ -37,6 +38,10 @@ word_of_calls = AreWordsOf plugged_machine (start_state 2 (start_with Unmovable)
 -- whatever the first take found, and nothing else
 abbrev pub first_take : Finds
 first_take number page word = number ≡ 0
+
+-- each take found the word at its place, for page 0
+abbrev pub found_by : (words : List ℕ) → Finds
+found_by words number page word = (page ≡ page_no 0) × (slice_get words number ≡ Some word)
 
 -- ---- what was done
 
@@ -108,9 +113,36 @@ pinned_at_first = 20500
 abbrev pub pinned_in_21 : ℕ
 pinned_in_21 = 1073763348
 
+-- ---- attempts
+
+-- five words, taken all, with the bounds 0 to 2
+abbrev pub five_words : List ℕ
+five_words = taken_at_first ∷ taken_at_first ∷ taken_behind_pin ∷ taken_behind_pin ∷ taken_behind_all ∷ []
+
+abbrev pub newest_first : List ℕ
+newest_first = taken_behind_all ∷ taken_behind_pin ∷ taken_behind_pin ∷ taken_at_first ∷ taken_at_first ∷ []
+
+-- the take of the third round found the word with bound 1
+abbrev pub another_in_the_third : List ℕ
+another_in_the_third = taken_behind_all ∷ taken_behind_pin ∷ taken_at_first ∷ taken_at_first ∷ taken_at_first ∷ []
+
+-- page 0 was busy in each round, by those words
+abbrev pub rounds_with : (words : List ℕ) → List (List Attempt)
+rounds_with words = map (λ word. found_busy word ∷ []) words
+
+-- a page was moved out of frame 20
+abbrev pub round_moving : (page : ℕ) → List (List Attempt)
+round_moving page = (record { lease = lease_of 20 page 0; found = None } ∷ []) ∷ []
+
+-- the evacuation of block 3, which was all that the frame space saw, made those rounds
+abbrev pub AreMadeBy : Finds → List SpaceAction → List (List Attempt) → Type 0
+AreMadeBy finds journal rounds = AreTrueRounds (run_with Unmovable journal) finds [] (block_no 3) journal (length journal) rounds
+
 pub record CausesOfSmall : Type 0 where
   pub pinned_page : by_truth (run_with Unmovable one_attempt) word_of_calls [] (block_no 3) (Some pinned) one_attempt
   pub five_busy_rounds : by_truth (run_with Unmovable five_attempts) word_of_calls [] (block_no 3) (Some busy) five_attempts
+  -- page 0 was moved, and no take found a word of it
+  pub emptied_block : by_truth (run_with Unmovable block_3_emptied) (found_by []) [] (block_no 3) None (isolate 3 ∷ attempt 20)
   pub unmovable_behind_an_emptied_block : by_truth (run_of_two Unmovable) word_of_calls block_3_emptied (block_no 2) (Some unmovable) []
   pub no_target_left : by_truth full_run word_of_calls [] (block_no 0) (Some (no_target_in_full 1)) full_actions
   -- a taken word that no later call of the page used, a pin that no call had made, and a word of another page
@@ -140,3 +172,12 @@ pub record CausesOfSmall : Type 0 where
   -- the first evacuation found the word, and the second has the next take
   pub found_in_the_first_evacuation : IsCauseTrue (run_with Unmovable (one_attempt ++ one_attempt)) first_take [] (block_no 3) one_attempt pinned
   pub not_found_in_the_second : ¬ IsCauseTrue (run_with Unmovable (one_attempt ++ one_attempt)) first_take one_attempt (block_no 3) one_attempt pinned
+  -- each round has the word of its own take
+  pub words_of_five_takes : AreMadeBy (found_by five_words) five_attempts (rounds_with newest_first)
+  pub word_of_no_take : ¬ AreMadeBy (found_by five_words) five_attempts (rounds_with another_in_the_third)
+  pub one_lease_in_two_rounds : ¬ AreMadeBy word_of_calls one_attempt (rounds_with (replicate 2 taken_at_first))
+  pub lease_for_another_page : ¬ AreMadeBy word_of_calls one_attempt (round_moving 1)
+  -- the first of the two leases is of the evacuation before
+  pub over_two_evacuations :
+      ¬ AreTrueRounds (run_with Unmovable (one_attempt ++ one_attempt)) word_of_calls one_attempt (block_no 3) one_attempt (length (one_attempt ++ one_attempt))
+      (rounds_with (replicate 2 taken_at_first))

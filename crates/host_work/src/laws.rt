@@ -1,6 +1,6 @@
 //! Laws of the definitions. Each function has an empty body: its contract is the law.
 
-ghost use Rattle.std.specs.Prelude.{◌≡◌, ◌≢◌, ◌++◌, ℕ, false, List, [], ◌∷◌, length, map, Some};
+ghost use Rattle.std.specs.Prelude.{◌≡◌, ◌≢◌, ◌++◌, ℕ, false, List, [], ◌∷◌, length, map, Option, Some};
 ghost use Rattle.std.specs.List.{range_with_len, AllByRecursion};
 ghost use Rattle.evac_model.specs.declared.device.Response.{Response};
 ghost use Rattle.evac_model.specs.declared.device_journal.DeviceAct.{DeviceAct};
@@ -26,7 +26,7 @@ ghost use Rattle.host_work.specs.Evacuated.{WasEvacuated, by_tale};
 ghost use Rattle.host_work.specs.Examples.{CommandsOfSmall};
 ghost use Rattle.host_work.specs.FoundWords.{AreWordsOf};
 ghost use Rattle.host_work.specs.PlainCommands.{IsPlain, onlines_of, host_actions, host_lines, host_onlines};
-ghost use Rattle.host_work.specs.Truth.{SpaceRun, IsCauseTrue, by_truth};
+ghost use Rattle.host_work.specs.Truth.{SpaceRun, targets_in, IsCauseTrue, tried_in, by_truth};
 ghost use Rattle.host_work.specs.TruthExamples.{CausesOfSmall};
 
 /// A request that unplugs nothing is one answer of the device, and then the blocks that it plugged are put online: no
@@ -59,12 +59,18 @@ pub fn failed_evacuations_are_undone()
     ensures refused { (s : Sizes) (b : BlockNo) (frame : FrameNo) (page : PageNo) (actions : List SpaceAction) → WasEvacuated s b (Some (EvacCause.Unmovable frame page)) actions → actions ≡ [] }
 {}
 
+/// An evacuation leased a target for each attempt of its tale, and for nothing else, but for one whose isolation was refused. Since
+/// each attempt of a true one was made at a lease of its own, its tale has an attempt for each target that it leased.
+pub fn evacuations_lease_a_target_for_each_attempt()
+    ensures { (s : Sizes) (b : BlockNo) (cause : Option EvacCause) (actions : List SpaceAction) (h : WasEvacuated s b cause actions) → ((frame : FrameNo) (page : PageNo) → cause ≢ Some (EvacCause.Unmovable frame page)) → targets_in actions ≡ tried_in (h.tale.attempts ∷ h.tale.rounds) }
+{}
+
 /// Commands of a small machine, worked out by hand: what is reported of each, and what was done.
 pub fn commands_of_a_small_machine()
     ensures { CommandsOfSmall }
 {}
 
-/// What commands did whose causes are true they did by tales of what they were told.
+/// What commands did whose evacuations are true they did by tales of what they were told.
 pub fn what_is_done_by_truth_is_done_by_tale()
     ensures { (r : SpaceRun) (s : Sizes) (start : PlainState) (entries : List Entry) (before : List SpaceAction) (d : DeviceState) (runs : List HostRun) (actions : List SpaceAction) (device : List DeviceAction) → AreDoneBy (by_truth r (AreWordsOf s start entries)) before s d runs actions device → AreDoneBy (by_tale r.sizes) before s d runs actions device }
 {}
@@ -74,7 +80,7 @@ pub fn true_causes_stay_true()
     ensures { (r : SpaceRun) (more : List SpaceAction) (s : Sizes) (start : PlainState) (entries : List Entry) (before : List SpaceAction) (b : BlockNo) (own : List SpaceAction) (cause : EvacCause) → IsCauseTrue r (AreWordsOf s start entries) before b own cause → IsCauseTrue (record r { journal = r.journal ++ more }) (AreWordsOf s start entries) before b own cause }
 {}
 
-/// Causes of failed evacuations of a small machine, worked out by hand: true ones, and some that aren't.
+/// Evacuations of a small machine, worked out by hand: attempts and causes that are true, and some that aren't.
 pub fn causes_of_a_small_machine()
     ensures { CausesOfSmall }
 {}

@@ -7,6 +7,7 @@ ghost use Rattle.evac_model.specs.Scenarios.{IsRunnable};
 ghost use Rattle.evac_model.specs.SpaceJournal.{is_frame_in};
 ghost use Rattle.evac_words.specs.Word.{mapped_bit, frame_of};
 ghost use Rattle.core_state.specs.Words.{entry_word_of};
+ghost use Rattle.core_actors.specs.HostFound.{HasTakes};
 ghost use Rattle.machine.specs.World.{World, unplugged_now};
 ghost use Rattle.report.specs.declared.report.Report.{Report};
 ghost use Rattle.replay.specs.Running.{Running, after_turn, after_turns};
@@ -33,6 +34,15 @@ pub fn no_mapped_page_is_unplugged()
     ensures { (s : Scenario) (turns : List Actor) (page : ℕ) → IsRunnable s → page < s.geometry.pages
         → (let w : World = (after_turns (setting s) (running_at_start s) turns).world in
         mapped_bit (entry_word_of w.snapshot.words page) ≡ 1 → is_frame_in s.geometry (unplugged_now (setting s) w) (frame_of (entry_word_of w.snapshot.words page)) ≡ false) }
+{}
+
+/// At every moment of a run, whatever turns were made, the driver has taken a page for each target that it leased, but for one that
+/// is still to be taken: so its takes are numbered as these leases are, and an evacuation that is true of the run names the take of
+/// each word by the number of a lease of its own.
+pub fn takes_go_with_leases()
+    ensures { (s : Scenario) (turns : List Actor) → IsRunnable s
+        → (let m : Running = after_turns (setting s) (running_at_start s) turns in
+        HasTakes m.world m.host) }
 {}
 
 /// After the named and the drawn turns and so many rounds as the calls and the commands could have steps, and one
