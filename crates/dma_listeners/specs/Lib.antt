@@ -1,3 +1,4 @@
+pub mod Backings
 pub mod Slates
 pub mod Drafts
 pub mod DmaMaps

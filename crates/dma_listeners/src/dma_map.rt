@@ -18,25 +18,27 @@ pub struct DmaMap {
 }
 
 impl Model for DmaMap {
+    ghost use Rattle.evac_model.specs.DeviceBlocks.{device_blocks};
     ghost use Rattle.dma_listeners.specs.DmaMaps.{DmaState};
 
     ghost Value = { DmaState };
 
-    ghost view = { λ d. record { region = d.map.sizes.managed; mapped = d.map.plugged; limit = d.limit; refusals = d.refusals } };
+    ghost view = { λ d. record { region = device_blocks d.map.sizes; mapped = d.map.plugged; limit = d.limit; refusals = d.refusals } };
 }
 
 impl DmaMap {
     ghost use Rattle.std.specs.Prelude.{[], length, IfOk};
+    ghost use Rattle.evac_model.specs.DeviceBlocks.{device_blocks};
     ghost use Rattle.evac_model.specs.Numbers.{is_in};
 
-    /// A listener that maps no block yet. It can be told of the machine's managed blocks, and refuses
+    /// A listener that maps no block yet. It can be told of the device's blocks, and refuses
     /// where it would map more than `limit` of them. It fails where there is no memory for the bits.
     pub fn new(alloc: Global, g: Geometry, limit: u32) -> Result<DmaMap, OutOfMemory>
-        ensures { IfOk result (λ d. d ≡ record { region = g.managed; mapped = []; limit = limit; refusals = 0 }) }
+        ensures { IfOk result (λ d. d ≡ record { region = device_blocks g; mapped = []; limit = limit; refusals = 0 }) }
     {
         let mut map = BlockMap::new(alloc, g)?;
-        let managed = map.geometry().managed();
-        map.clear(BlockNo(0), managed);
+        let blocks = map.geometry().device_blocks();
+        map.clear(BlockNo(0), blocks);
         Ok(DmaMap {
             map,
             limit,

@@ -2,6 +2,7 @@
 
 ghost use Rattle.std.specs.Prelude.{◌≡◌, ℕ, ◌+◌, ◌*◌, ◌<◌, ◌≤◌, ◌∷◌, ◌++◌, [], Some, length, flat_map, IfSome, OnSome, OnOk, OnErr, IfErr};
 ghost use Rattle.evac_model.specs.declared.device_journal.Told.TheVariants.{PopulateOk, PopulateRefused, Discard};
+ghost use Rattle.evac_model.specs.DeviceBlocks.{device_blocks};
 ghost use Rattle.evac_model.specs.Numbers.{with_range, without_range};
 ghost use Rattle.evac_model.specs.Notices.{notice, told_each, told_blocks, unplug_all_notices};
 ghost use Rattle.dma_listeners.specs.Drafts.{IsWritten};
@@ -129,17 +130,17 @@ fn discard_blocks_one<L: Listener>(
     plugged: &BlockMap,
     notices: &mut NoticeDraft,
 )
-    requires inside { IfSome (listener_at listeners.old.slots key) (λ l. plugged.now.sizes.managed ≤ L.room l) }
+    requires inside { IfSome (listener_at listeners.old.slots key) (λ l. device_blocks plugged.now.sizes ≤ L.room l) }
     requires room { OnSome (listener_at listeners.old.slots key) (length plugged.now.plugged ≤ notices.old.room) }
     ensures changed { IsChangedAt L.mapped L.refusals L.limit L.room (without_blocks plugged.now.plugged) (listener_at listeners.old.slots key) (listener_at listeners.new.slots key) }
     ensures others { OthersKept key listeners.old.slots listeners.new.slots }
     ensures size { length listeners.new.slots ≡ length listeners.old.slots }
     ensures told { IsWritten notices.old notices.new (flat_map (λ k. told_blocks (Some k) plugged.now.plugged Discard) (live_key listeners.old.slots key)) }
 {
-    let managed = plugged.geometry().managed();
+    let blocks = plugged.geometry().device_blocks();
     if let Some(listener) = listeners.get_mut(key) {
-        discard_blocks(listener, plugged, managed);
-        write_blocks(notices, Some(key), plugged, managed, Told::Discard);
+        discard_blocks(listener, plugged, blocks);
+        write_blocks(notices, Some(key), plugged, blocks, Told::Discard);
     }
 }
 
@@ -150,7 +151,7 @@ pub(crate) fn discard_blocks_each<L: Listener>(
     plugged: &BlockMap,
     notices: &mut NoticeDraft,
 )
-    requires inside { EachListener (λ l. plugged.now.sizes.managed ≤ L.room l) listeners.old.slots }
+    requires inside { EachListener (λ l. device_blocks plugged.now.sizes ≤ L.room l) listeners.old.slots }
     requires room { length (keys_below listeners.old.slots end) * length plugged.now.plugged ≤ notices.old.room }
     ensures changed { AreChangedBelow L.mapped L.refusals L.limit L.room (without_blocks plugged.now.plugged) end listeners.old.slots listeners.new.slots }
     ensures told { IsWritten notices.old notices.new (unplug_all_notices (keys_below listeners.old.slots end) plugged.now.plugged) }

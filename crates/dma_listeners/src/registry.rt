@@ -1,6 +1,7 @@
 //! The listeners of a device.
 
 ghost use Rattle.std.specs.Prelude.{◌≡◌, ◌*◌, ◌<◌, ◌≤◌, true, length};
+ghost use Rattle.evac_model.specs.DeviceBlocks.{device_blocks};
 ghost use Rattle.evac_model.specs.Numbers.{is_in, IsRisingBelow};
 ghost use Rattle.evac_model.specs.Notices.{refused_join_notices};
 ghost use Rattle.dma_listeners.specs.Drafts.{IsWritten};
@@ -35,6 +36,7 @@ impl<L> Model for Registry<L> {
 impl<L: Listener> Registry<L> {
     ghost use Rattle.std.specs.Prelude.{◌≡◌, ℕ, ◌+◌, ◌*◌, ◌<◌, ◌≤◌, List, [], true, false, None, length, IfSome, IfNone, OnSome, IfOk, IfErr, OnOk, OnErr, IsSomeAnd, option_copied};
     ghost use Rattle.evac_model.specs.Counts.{WhereTold};
+    ghost use Rattle.evac_model.specs.DeviceBlocks.{device_blocks};
     ghost use Rattle.evac_model.specs.Numbers.{with_range, without_range, IsRisingBelow};
     ghost use Rattle.evac_model.specs.DeviceAnswer.{are_unplugged};
     ghost use Rattle.evac_model.specs.Notices.{plug_notices, unplug_notices, unplug_all_notices, join_notices, leave_notices};
@@ -129,7 +131,7 @@ impl<L: Listener> Registry<L> {
 
     /// Tells each listener, by rising key, to discard each plugged block, rising, one a call.
     pub fn discard_all(&mut self, plugged: &BlockMap, notices: &mut NoticeDraft)
-        requires inside { EachListener (λ l. plugged.now.sizes.managed ≤ L.room l) self.old }
+        requires inside { EachListener (λ l. device_blocks plugged.now.sizes ≤ L.room l) self.old }
         requires room { length (live_keys self.old) * length plugged.now.plugged ≤ notices.old.room }
         ensures told { IsWritten notices.old notices.new (unplug_all_notices (live_keys self.old) plugged.now.plugged) }
         ensures discarded { AreChanged L.mapped L.refusals L.limit L.room (without_blocks plugged.now.plugged) self.old self.new }
@@ -150,7 +152,7 @@ impl<L: Listener> Registry<L> {
         notices: &mut NoticeDraft,
     ) -> Result<usize, JoinFault<L>>
         requires empty { L.mapped l ≡ [] }
-        requires inside { plugged.now.sizes.managed ≤ L.room l }
+        requires inside { device_blocks plugged.now.sizes ≤ L.room l }
         requires room { 2 * length plugged.now.plugged ≤ notices.old.room }
         ensures joined { IfOk result (λ key. HasJoined L.mapped L.refusals L.limit L.room plugged.now.plugged key l self.old self.new) }
         ensures told { IfOk result (λ key. IsWritten notices.old notices.new (join_notices key plugged.now.plugged)) }
@@ -164,11 +166,11 @@ impl<L: Listener> Registry<L> {
             return Err(JoinFault::OutOfMemory(l));
         }
         let mut listener = l;
-        let managed = plugged.geometry().managed();
-        match populate_blocks(&mut listener, plugged, managed) {
+        let blocks = plugged.geometry().device_blocks();
+        match populate_blocks(&mut listener, plugged, blocks) {
             Ok(()) => {
                 let key = self.listeners.insert_reserved(listener);
-                write_blocks(notices, Some(key), plugged, managed, Told::PopulateOk);
+                write_blocks(notices, Some(key), plugged, blocks, Told::PopulateOk);
                 Ok(key)
             }
             Err(b) => {
@@ -182,7 +184,7 @@ impl<L: Listener> Registry<L> {
     /// Takes the listener of a key out and tells it to discard each plugged block, rising, one a call.
     /// None comes exactly where no listener has the key.
     pub fn leave(&mut self, key: usize, plugged: &BlockMap, notices: &mut NoticeDraft) -> Option<L>
-        requires inside { IfSome (listener_at self.old key) (λ l. plugged.now.sizes.managed ≤ L.room l) }
+        requires inside { IfSome (listener_at self.old key) (λ l. device_blocks plugged.now.sizes ≤ L.room l) }
         requires room { OnSome (listener_at self.old key) (length plugged.now.plugged ≤ notices.old.room) }
         ensures left { IfSome result (λ l. IsSomeAnd (listener_at self.old key) (λ was. IsChanged L.mapped L.refusals L.limit L.room (without_blocks plugged.now.plugged) was l)) }
         ensures told { OnSome result (IsWritten notices.old notices.new (leave_notices key plugged.now.plugged)) }
@@ -194,9 +196,9 @@ impl<L: Listener> Registry<L> {
         ensures maps_none { MapExactly L.mapped plugged.now.plugged self.old → IfSome result (λ l. L.mapped l ≡ []) }
     {
         let mut listener = self.listeners.try_remove(key)?;
-        let managed = plugged.geometry().managed();
-        discard_blocks(&mut listener, plugged, managed);
-        write_blocks(notices, Some(key), plugged, managed, Told::Discard);
+        let blocks = plugged.geometry().device_blocks();
+        discard_blocks(&mut listener, plugged, blocks);
+        write_blocks(notices, Some(key), plugged, blocks, Told::Discard);
         Some(listener)
     }
 }
@@ -204,8 +206,8 @@ impl<L: Listener> Registry<L> {
 // Writes the calls of a join that was refused at a block.
 fn write_refused_join(notices: &mut NoticeDraft, plugged: &BlockMap, b: BlockNo)
     requires block { is_in b.0 plugged.now.plugged ≡ true }
-    requires managed { b.0 < plugged.now.sizes.managed }
-    requires rising { IsRisingBelow plugged.now.sizes.managed plugged.now.plugged }
+    requires inside { b.0 < device_blocks plugged.now.sizes }
+    requires rising { IsRisingBelow (device_blocks plugged.now.sizes) plugged.now.plugged }
     requires room { 2 * length plugged.now.plugged ≤ notices.old.room }
     ensures { IsWritten notices.old notices.new (refused_join_notices plugged.now.plugged b.0) }
 {

@@ -7,7 +7,7 @@ use crate::{Backing, Failed};
 use evac_model::{BlockNo, CallCount, NumberList, count_up};
 use std::marker::Model;
 
-/// A backing that gives nothing back, and fails at exactly the listed calls. The first call has the
+/// A backing of 65,536 blocks that gives nothing back, and fails at exactly the listed calls. The first call has the
 /// number 1. The number of calls stands still at `u64::MAX`, and a call that doesn't raise it isn't
 /// listed. No call takes memory.
 #[derive(Debug, Drop)]
@@ -43,6 +43,10 @@ impl Backing for Slate {
 
     ghost told = { λ s. Some s.calls };
 
+    ghost asked = { λ _. None };
+
+    ghost room = { λ _. 65536 };
+
     /// Fails where the call is listed.
     fn discard(&mut self, _first: BlockNo, _n: u32) -> Result<(), Failed>
         ensures exact { IsErr result ↔ IsListed self.old.calls }
@@ -59,8 +63,8 @@ impl Backing for Slate {
     }
 }
 
-/// A backing that gives nothing back and never fails. It counts no fault, so that no caller of it
-/// can answer that it failed, and it tells no calls.
+/// A backing of 65,536 blocks that gives nothing back and never fails. It counts no fault, so that no caller of it
+/// can answer that it failed, and it tells no calls and no ranges.
 #[derive(Debug, Drop)]
 pub struct SureSlate;
 
@@ -75,6 +79,10 @@ impl Backing for SureSlate {
     ghost faults = { λ _. 0 };
 
     ghost told = { λ _. None };
+
+    ghost asked = { λ _. None };
+
+    ghost room = { λ _. 65536 };
 
     /// Never fails.
     fn discard(&mut self, _first: BlockNo, _n: u32) -> Result<(), Failed>

@@ -1,6 +1,6 @@
 -- A request to the device of a machine: the response, the blocks that were found, the hand-overs of their frames, and the
 -- world behind.
-use Rattle.std.proofs.Common.{◌≡◌, ℕ, ◌+◌, Bool, true, false, if◌then◌else◌, List, [], ◌∷◌, ◌++◌, length, Option, Some, refl, sym, ap, subst, ◌∙◌}
+use Rattle.std.proofs.Common.{◌≡◌, ℕ, ◌+◌, Bool, true, false, if◌then◌else◌, List, [], ◌∷◌, ◌++◌, length, Option, None, Some, refl, sym, ap, subst, ◌∙◌}
 use Rattle.std.proofs.lemmas.Option.{same_Some}
 use Rattle.std.specs.List.{range_with_len}
 use Rattle.evac_model.specs.declared.device.Request.{Request}
@@ -11,7 +11,7 @@ use Rattle.evac_model.specs.Counts.{Calls, after_call}
 use Rattle.evac_model.specs.DeviceAnswer.{DeviceState, request_in, named_blocks, asks_backing, device_at_start}
 use Rattle.evac_model.specs.DeviceJournal.{answer_to}
 use Rattle.evac_model.specs.Geometry.{Sizes}
-use Rattle.evac_model.specs.HostCommands.{BlockRange, request_action, plugged_by, blocks_of, unplugs}
+use Rattle.evac_model.specs.HostCommands.{BlockRange, request_action, requested_blocks, plugged_by, blocks_of, unplugs}
 use Rattle.evac_model.proofs.DeviceJournal.{calls_after-push}
 use Rattle.core_state.specs.declared.opening.Opening.{Opening}
 use Rattle.core_state.specs.declared.snapshot.Snapshot.{Snapshot}
@@ -41,15 +41,19 @@ hands_again s t o p x y from to blocks found sizes opening snapshot same may = r
 abbrev pub told_by : SlateState → Option Calls
 told_by slate = Some slate.calls
 
+-- it tells no ranges
+abbrev pub ranges_by : SlateState → Option (List BlockRange)
+ranges_by slate = None
+
 -- one more, where it was asked
-asked_calls : (asked : Bool) (before after : SlateState) → IsAsked told_by asked before after → after.calls ≡ (if asked then after_call before.calls else before.calls)
-asked_calls true before after is = same_Some after.calls (after_call before.calls) is
-asked_calls false before after is = ap (λ (x : SlateState). x.calls) is
+asked_calls : (blocks : BlockRange) (asked : Bool) (before after : SlateState) → IsAsked told_by ranges_by blocks asked before after → after.calls ≡ (if asked then after_call before.calls else before.calls)
+asked_calls blocks true before after is = same_Some after.calls (after_call before.calls) is.calls
+asked_calls blocks false before after is = ap (λ (x : SlateState). x.calls) is
 
 -- the calls that fail are the same
-pub asked_none : (asked : Bool) (before after : SlateState) → IsAsked told_by asked before after → none_made after.calls ≡ none_made before.calls
-asked_none true before after is = ap none_made (asked_calls true before after is)
-asked_none false before after is = ap none_made (asked_calls false before after is)
+pub asked_none : (blocks : BlockRange) (asked : Bool) (before after : SlateState) → IsAsked told_by ranges_by blocks asked before after → none_made after.calls ≡ none_made before.calls
+asked_none blocks true before after is = ap none_made (asked_calls blocks true before after is)
+asked_none blocks false before after is = ap none_made (asked_calls blocks false before after is)
 
 -- ---- a request
 
@@ -186,22 +190,25 @@ module _ (a : Parts) (m : IsMachine a) (bytes sent : List ℕ) (may : MayRequest
   abbrev asked : Bool
   asked = asks_backing c.sizes d (request_in bytes)
 
-  module _ (after : SlateState) (is : IsAsked told_by (asks_backing a.device.sizes (device_state a.device) (request_in sent)) a.device.backing after) where
-    asked_is : IsAsked told_by asked a.device.backing after
+  abbrev range : BlockRange
+  range = requested_blocks c.sizes (request_in bytes)
+
+  module _ (after : SlateState) (is : IsAsked told_by ranges_by (requested_blocks a.device.sizes (request_in sent)) (asks_backing a.device.sizes (device_state a.device) (request_in sent)) a.device.backing after) where
+    asked_is : IsAsked told_by ranges_by range asked a.device.backing after
     asked_is =
-        subst (λ (l : List ℕ). IsAsked told_by (asks_backing c.sizes d (request_in l)) a.device.backing after) same
-        (subst (λ (s : Sizes). IsAsked told_by (asks_backing s (device_at s a.device.journal) (request_in sent)) a.device.backing after) m.device is)
+        subst (λ (l : List ℕ). IsAsked told_by ranges_by (requested_blocks c.sizes (request_in l)) (asks_backing c.sizes d (request_in l)) a.device.backing after) same
+        (subst (λ (s : Sizes). IsAsked told_by ranges_by (requested_blocks s (request_in sent)) (asks_backing s (device_at s a.device.journal) (request_in sent)) a.device.backing after) m.device is)
 
     -- they are those of the journal with the request
     pub calls_request : after.calls ≡ calls_now c (request_made c w bytes answer).world
     calls_request =
-        asked_calls asked a.device.backing after asked_is
+        asked_calls range asked a.device.backing after asked_is
         ∙ (ap (λ (k : Calls). if asked then after_call k else k) m.backing
         ∙ sym (calls_after-push c.sizes (device_at_start c.sizes) c.backing w.device (request_action bytes answer)))
 
     -- those that fail are the same
     pub fails_request : none_made after.calls ≡ c.backing
-    fails_request = asked_none asked a.device.backing after asked_is
+    fails_request = asked_none range asked a.device.backing after asked_is
 
     -- the parts have the setting again
     pub setting_request : (b : Parts) (o : Opening) → o ≡ a.core.opening → setting_of b ≡ record c { opening = o; backing = none_made after.calls } → setting_of b ≡ c

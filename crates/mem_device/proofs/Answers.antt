@@ -29,9 +29,9 @@ pub none_rising : (m : ℕ) → IsRisingBelow m []
 none_rising m = sym (numbers_where-none (λ b. is_in b []) m (λ b. refl))
 
 -- a memory whose hand has the unplugged blocks is managed
-pub managed_after : {B H : Type 0} (blocks : H → List ℕ) (room : H → ℕ) (m : Memory B H) (s : Sizes) (plugged : List ℕ) → IsWithinLimits s → m.map.sizes ≡ s → m.map.plugged ≡ plugged → IsRisingBelow s.managed plugged → blocks m.hand ≡ unplugged_blocks s plugged → s.managed ≤ room m.hand → IsManaged blocks room m
-managed_after blocks room m s plugged w e p r u h =
-    record { within = rw e w; rising = rw (p, e) r; unplugged = rw (p, e) u; roomy = rw e h }
+pub managed_after : {B H : Type 0} (blocks : H → List ℕ) (room : H → ℕ) (backs : B → ℕ) (m : Memory B H) (s : Sizes) (plugged : List ℕ) → IsWithinLimits s → m.map.sizes ≡ s → m.map.plugged ≡ plugged → IsRisingBelow s.managed plugged → blocks m.hand ≡ unplugged_blocks s plugged → s.managed ≤ room m.hand → s.managed ≤ backs m.backing → IsManaged blocks room backs m
+managed_after blocks room backs m s plugged w e p r u h k =
+    record { within = rw e w; rising = rw (p, e) r; unplugged = rw (p, e) u; roomy = rw e h; backed = rw e k }
 
 -- the hand before a PLUG has the blocks that are plugged
 pub merged_none : (s : Sizes) (plugged hand held merged : List ℕ) → hand ≡ unplugged_blocks s plugged → held ≡ [] → merged ≡ united hand held → merged ≡ unplugged_blocks s plugged

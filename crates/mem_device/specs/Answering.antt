@@ -9,6 +9,8 @@ use Rattle.evac_model.specs.declared.device.Response.TheVariants.{Ack, Nack, Bus
 use Rattle.evac_model.specs.Geometry.{Sizes}
 use Rattle.evac_model.specs.DeviceAnswer.{DeviceState, block_at, asks_backing, device_answer}
 use Rattle.evac_model.specs.Counts.{Calls, after_call, IsListed, Rose, WhereTold}
+use Rattle.evac_model.specs.HostCommands.{BlockRange}
+use Rattle.dma_listeners.specs.Backings.{asked_more}
 
 -- The response is the device's answer, where `refused` says that the backing failed: only where it was asked and its
 -- count of faults rose, and where its calls are told, exactly where the call is a listed one.
@@ -23,10 +25,15 @@ pub record IsAnswer (s : Sizes) (d : DeviceState) (request : Option Request) (be
 abbrev pub IsBusyCause : Sizes → DeviceState → Option Request → (before after : ℕ) → Type 0
 IsBusyCause s d request before after = (d.migrating ≡ true) ⊎ ((asks_backing s d request ≡ true) × Rose before after)
 
--- the backing was asked once, or is as it was
-abbrev pub IsAsked : {B : Type 0} → (told : B → Option Calls) → Bool → (before after : B) → Type 0
-IsAsked told true before after = told after ≡ option_map after_call (told before)
-IsAsked told false before after = after ≡ before
+-- the backing was asked once, to give back exactly these blocks
+pub record IsAskedOnce {B : Type 0} (told : B → Option Calls) (asked : B → Option (List BlockRange)) (blocks : BlockRange) (before after : B) : Type 0 where
+  pub calls : told after ≡ option_map after_call (told before)
+  pub ranges : asked after ≡ asked_more blocks.first blocks.count (asked before)
+
+-- it was asked so, or is as it was
+abbrev pub IsAsked : {B : Type 0} → (told : B → Option Calls) → (asked : B → Option (List BlockRange)) → BlockRange → Bool → (before after : B) → Type 0
+IsAsked told asked blocks true before after = IsAskedOnce told asked blocks before after
+IsAsked told asked blocks false before after = after ≡ before
 
 -- what comes back: the blocks plugged, none where blocks were unplugged, and else what came
 abbrev pub IsBack : {H : Type 0} → (blocks : H → List ℕ) → Sizes → Option Request → Response → (held back : H) → Type 0

@@ -17,12 +17,13 @@ module _ {B H : Type 0} where
   abbrev pub state_in : Memory B H → DeviceState
   state_in m = record { plugged = m.map.plugged; requested = m.requested; migrating = m.migrating }
 
-  -- the hand has exactly the unplugged blocks, and room for each block
-  pub record IsManaged (blocks : H → List ℕ) (room : H → ℕ) (m : Memory B H) : Type 0 where
+  -- the hand has exactly the unplugged blocks, and room for each block, and the backing backs each
+  pub record IsManaged (blocks : H → List ℕ) (room : H → ℕ) (backs : B → ℕ) (m : Memory B H) : Type 0 where
     pub within : IsWithinLimits m.map.sizes
     pub rising : IsRisingBelow (device_blocks m.map.sizes) m.map.plugged
     pub unplugged : blocks m.hand ≡ unplugged_blocks m.map.sizes m.map.plugged
     pub roomy : device_blocks m.map.sizes ≤ room m.hand
+    pub backed : device_blocks m.map.sizes ≤ backs m.backing
 
 -- the response to a request that is done, or the one that refuses it
 abbrev pub cause_answer : Result BlockNo Response → Response

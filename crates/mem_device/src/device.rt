@@ -18,7 +18,7 @@ use std::marker::Model;
 /// requested size and the migration flag are what the journal leaves. Memory is taken for the
 /// journal alone.
 #[derive(Drop)]
-pub struct Device<L, B, H: Held> {
+pub struct Device<L, B: Backing, H: Held> {
     memory: Memory<B, H>,
     registry: Registry<L>,
     journal: Vec<DeviceAction>,
@@ -27,12 +27,12 @@ pub struct Device<L, B, H: Held> {
 
 /// All of a device but its journal, to be given back as one.
 #[derive(Drop)]
-struct Rest<L, B, H: Held> {
+struct Rest<L, B: Backing, H: Held> {
     memory: Memory<B, H>,
     registry: Registry<L>,
 }
 
-impl<L, B, H: Held> Model for Device<L, B, H> {
+impl<L, B: Backing, H: Held> Model for Device<L, B, H> {
     ghost use Rattle.mem_device.specs.DeviceView.{DeviceView};
 
     ghost Value = { DeviceView B H };
@@ -41,19 +41,20 @@ impl<L, B, H: Held> Model for Device<L, B, H> {
 
     ghost view = { λ a. record { sizes = a.memory.map.sizes; journal = a.journal.items; backing = a.memory.backing; hand = a.memory.hand } };
 
-    ghost invariant = { λ a. IsDevice H.blocks H.room a.memory a.registry a.journal.items };
+    ghost invariant = { λ a. IsDevice H.blocks H.room B.room a.memory a.registry a.journal.items };
 }
 
 impl<L: Listener, B: Backing, H: Held> Device<L, B, H> {
     ghost use Rattle.std.specs.Prelude.{◌≡◌, ◌≤◌, ◌++◌, ◌∷◌, [], ◌↔◌, length, Err, IfOk, IfErr, OnOk, OnErr};
     ghost use Rattle.evac_model.specs.DeviceAnswer.{request_in, config_of, unplugged_blocks, asks_backing, named_blocks};
-    ghost use Rattle.evac_model.specs.HostCommands.{request_action};
+    ghost use Rattle.evac_model.specs.HostCommands.{request_action, requested_blocks};
     ghost use Rattle.mem_device.specs.Answering.{IsAnswer, IsAsked, IsBack};
     ghost use Rattle.mem_device.specs.DeviceView.{device_state, requested_action, IsBadSize};
 
     /// Answers a request of at most 64 bytes (Virtio 1.2, 5.15.6). For an UNPLUG of a good range that
     /// is all plugged and for an UNPLUG_ALL, `held` has exactly the plugged blocks named, and else no
-    /// block. The backing is asked once where the answer depends on it, and only where it fails then, or a
+    /// block. The backing is asked once where the answer depends on it, to discard exactly the blocks that
+    /// the request names, for an UNPLUG_ALL the whole region; and only where it fails then, or a
     /// migration is active, the answer is BUSY. Room for the journal is taken
     /// first; where there is none, the device is as it was.
     pub fn answer(&mut self, bytes: &[u8], held: H) -> Result<Answer<H>, NoMemory<H>>
@@ -68,7 +69,7 @@ impl<L: Listener, B: Backing, H: Held> Device<L, B, H> {
         ensures back { IfOk result (λ a. IsBack H.blocks self.old.sizes (request_in bytes.now) a.response held a.back) }
         ensures hand { H.blocks self.new.hand ≡ unplugged_blocks self.new.sizes (device_state self.new).plugged }
 
-        ensures asked { OnOk result (IsAsked B.told (asks_backing self.old.sizes (device_state self.old) (request_in bytes.now)) self.old.backing self.new.backing) }
+        ensures asked { OnOk result (IsAsked B.told B.asked (requested_blocks self.old.sizes (request_in bytes.now)) (asks_backing self.old.sizes (device_state self.old) (request_in bytes.now)) self.old.backing self.new.backing) }
         ensures counts { B.faults self.old.backing ≤ B.faults self.new.backing }
         ensures sizes { self.new.sizes ≡ self.old.sizes }
 
@@ -165,8 +166,8 @@ impl<L: Listener + Drop, B: Backing + Drop, H: Held + Drop> Device<L, B, H> {
     ghost use Rattle.mem_device.specs.DeviceView.{device_state};
 
     /// The device of a machine at its start: the lowest blocks are plugged, and as much is requested.
-    /// `unplugged` holds exactly the blocks above these, and has room for every block. It fails where
-    /// there is no memory for the map of the plugged blocks.
+    /// `unplugged` holds exactly the blocks above these, and has room for every block, and `backing` backs
+    /// every block. It fails where there is no memory for the map of the plugged blocks.
     pub fn open(
         alloc: Global,
         g: Geometry,
@@ -174,6 +175,7 @@ impl<L: Listener + Drop, B: Backing + Drop, H: Held + Drop> Device<L, B, H> {
         unplugged: H,
     ) -> Result<Device<L, B, H>, OutOfMemory>
         requires roomy { device_blocks g ≤ H.room unplugged }
+        requires backed { device_blocks g ≤ B.room backing }
         requires unplugged { H.blocks unplugged ≡ range_with_len (plugged_at_start g) (device_blocks g - plugged_at_start g) }
         ensures { IfOk result (λ d. d ≡ record { sizes = g; journal = []; backing = backing; hand = unplugged }) }
     {

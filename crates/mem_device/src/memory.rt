@@ -4,6 +4,7 @@ ghost use Rattle.std.specs.Prelude.{◌≡◌, ℕ, ◌+◌, ◌≤◌, ◌<◌,
 ghost use Rattle.evac_model.specs.declared.device.Request.TheVariants as requests;
 ghost use Rattle.evac_model.specs.DeviceBlocks.{device_blocks};
 ghost use Rattle.evac_model.specs.DeviceAnswer.{block_at, are_plugged, are_unplugged, named_blocks, asks_backing, plug_answer, state_answer, after_answer};
+ghost use Rattle.evac_model.specs.HostCommands.{requested_blocks};
 ghost use Rattle.mem_device.specs.Answering.{IsAnswer, IsAsked, IsBack, IsRefusal};
 ghost use Rattle.mem_device.specs.Managed.{IsManaged, state_in, cause_answer, IsUnplugCause};
 
@@ -73,13 +74,13 @@ impl<B: Backing, H: Held> Memory<B, H> {
     /// Answers a request, or bytes that are none. `held` has the plugged blocks that an UNPLUG or an
     /// UNPLUG_ALL names, and else no block.
     pub(crate) fn answer(&mut self, request: Option<Request>, held: H) -> Answer<H>
-        requires managed { IsManaged H.blocks H.room self.old }
+        requires managed { IsManaged H.blocks H.room B.room self.old }
         requires held { H.blocks held ≡ named_blocks self.old.map.sizes self.old.map.plugged request }
-        ensures managed { IsManaged H.blocks H.room self.new }
+        ensures managed { IsManaged H.blocks H.room B.room self.new }
         ensures sizes { self.new.map.sizes ≡ self.old.map.sizes }
         ensures response { IsAnswer self.old.map.sizes (state_in self.old) request (B.faults self.old.backing) (B.faults self.new.backing) (B.told self.old.backing) result.response }
         ensures state { state_in self.new ≡ after_answer self.old.map.sizes (state_in self.old) request result.response }
-        ensures asked { IsAsked B.told (asks_backing self.old.map.sizes (state_in self.old) request) self.old.backing self.new.backing }
+        ensures asked { IsAsked B.told B.asked (requested_blocks self.old.map.sizes request) (asks_backing self.old.map.sizes (state_in self.old) request) self.old.backing self.new.backing }
         ensures counts { B.faults self.old.backing ≤ B.faults self.new.backing }
         ensures back { IsBack H.blocks self.old.map.sizes request result.response held result.back }
     {
@@ -100,9 +101,9 @@ impl<B: Backing, H: Held> Memory<B, H> {
 
     // Answers a PLUG.
     fn plug(&mut self, addr: u64, count: u16, held: H) -> Answer<H>
-        requires managed { IsManaged H.blocks H.room self.old }
+        requires managed { IsManaged H.blocks H.room B.room self.old }
         requires held { H.blocks held ≡ [] }
-        ensures managed { IsManaged H.blocks H.room self.new }
+        ensures managed { IsManaged H.blocks H.room B.room self.new }
         ensures sizes { self.new.map.sizes ≡ self.old.map.sizes }
         ensures response { result.response ≡ plug_answer self.old.map.sizes (state_in self.old) false addr count }
         ensures state { state_in self.new ≡ after_answer self.old.map.sizes (state_in self.old) (Some (requests.Plug addr count)) result.response }
@@ -128,13 +129,13 @@ impl<B: Backing, H: Held> Memory<B, H> {
 
     // Answers an UNPLUG.
     fn unplug(&mut self, addr: u64, count: u16, held: H) -> Answer<H>
-        requires managed { IsManaged H.blocks H.room self.old }
+        requires managed { IsManaged H.blocks H.room B.room self.old }
         requires held { H.blocks held ≡ named_blocks self.old.map.sizes self.old.map.plugged (Some (requests.Unplug addr count)) }
-        ensures managed { IsManaged H.blocks H.room self.new }
+        ensures managed { IsManaged H.blocks H.room B.room self.new }
         ensures sizes { self.new.map.sizes ≡ self.old.map.sizes }
         ensures response { IsAnswer self.old.map.sizes (state_in self.old) (Some (requests.Unplug addr count)) (B.faults self.old.backing) (B.faults self.new.backing) (B.told self.old.backing) result.response }
         ensures state { state_in self.new ≡ after_answer self.old.map.sizes (state_in self.old) (Some (requests.Unplug addr count)) result.response }
-        ensures asked { IsAsked B.told (asks_backing self.old.map.sizes (state_in self.old) (Some (requests.Unplug addr count))) self.old.backing self.new.backing }
+        ensures asked { IsAsked B.told B.asked (requested_blocks self.old.map.sizes (Some (requests.Unplug addr count))) (asks_backing self.old.map.sizes (state_in self.old) (Some (requests.Unplug addr count))) self.old.backing self.new.backing }
         ensures counts { B.faults self.old.backing ≤ B.faults self.new.backing }
         ensures back { IsBack H.blocks self.old.map.sizes (Some (requests.Unplug addr count)) result.response held result.back }
     {
@@ -163,13 +164,13 @@ impl<B: Backing, H: Held> Memory<B, H> {
 
     // Answers an UNPLUG_ALL.
     fn unplug_all(&mut self, held: H) -> Answer<H>
-        requires managed { IsManaged H.blocks H.room self.old }
+        requires managed { IsManaged H.blocks H.room B.room self.old }
         requires held { H.blocks held ≡ self.old.map.plugged }
-        ensures managed { IsManaged H.blocks H.room self.new }
+        ensures managed { IsManaged H.blocks H.room B.room self.new }
         ensures sizes { self.new.map.sizes ≡ self.old.map.sizes }
         ensures response { IsAnswer self.old.map.sizes (state_in self.old) (Some requests.UnplugAll) (B.faults self.old.backing) (B.faults self.new.backing) (B.told self.old.backing) result.response }
         ensures state { state_in self.new ≡ after_answer self.old.map.sizes (state_in self.old) (Some requests.UnplugAll) result.response }
-        ensures asked { IsAsked B.told (asks_backing self.old.map.sizes (state_in self.old) (Some requests.UnplugAll)) self.old.backing self.new.backing }
+        ensures asked { IsAsked B.told B.asked (requested_blocks self.old.map.sizes (Some requests.UnplugAll)) (asks_backing self.old.map.sizes (state_in self.old) (Some requests.UnplugAll)) self.old.backing self.new.backing }
         ensures counts { B.faults self.old.backing ≤ B.faults self.new.backing }
         ensures back { IsBack H.blocks self.old.map.sizes (Some requests.UnplugAll) result.response held result.back }
     {

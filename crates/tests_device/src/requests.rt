@@ -8,7 +8,7 @@ ghost use Rattle.mem_device.specs.DeviceView.{device_state};
 
 use crate::small_geometry;
 use dma_listeners::{Failed, Refused};
-use evac_model::{NumberList, Request, RequestBytes};
+use evac_model::{NumberList, Request, RequestBytes, count_up};
 use mem_codec::read_request;
 use mem_device::{
     Backing, BlockHand, BlockNo, Config, Device, DeviceAct, Held, Listener, Response, SizeFault,
@@ -50,7 +50,37 @@ impl Backing for Worn {
 
     ghost told = { λ _. None };
 
+    ghost asked = { λ _. None };
+
+    ghost room = { λ _. 65536 };
+
     fn discard(&mut self, _first: BlockNo, _n: u32) -> Result<(), Failed> {
+        Err(Failed)
+    }
+}
+
+// A backing that gives back one range alone.
+#[derive(Drop)]
+struct Picky {
+    first: BlockNo,
+    n: u32,
+    faults: u64,
+}
+
+impl Backing for Picky {
+    ghost faults = { λ p. p.faults };
+
+    ghost told = { λ _. None };
+
+    ghost asked = { λ _. None };
+
+    ghost room = { λ _. 65536 };
+
+    fn discard(&mut self, first: BlockNo, n: u32) -> Result<(), Failed> {
+        if first.0 == self.first.0 && n == self.n {
+            return Ok(());
+        }
+        self.faults = count_up(self.faults);
         Err(Failed)
     }
 }
@@ -258,6 +288,43 @@ fn a_worn_backing_is_asked_for_no_plug(rt: HostRuntime) -> Result<(), Fail> {
     Ok(())
 }
 
+// The device of a small machine with 3 plugged blocks, whose backing gives back that range alone.
+fn small_picky(alloc: Global, first: u32, n: u32) -> Result<Device<Deaf, Picky, BlockHand>, Fail>
+    ensures { IfOk result (λ device. device.journal ≡ []) }
+{
+    let g = small_geometry(3)?;
+    let unplugged = BlockHand::new(alloc, g, BlockNo(3), 1)?;
+    let backing = Picky {
+        first: BlockNo(first),
+        n,
+        faults: 0,
+    };
+    let device = Device::open(alloc, g, backing, unplugged)?;
+    Ok(device)
+}
+
+#[test]
+fn a_backing_is_asked_for_the_blocks_that_go(rt: HostRuntime) -> Result<(), Fail> {
+    // the range that is given back, and what comes of an UNPLUG of the blocks 1 and 2
+    let cases = [(1, 2, ACK), (0, 2, Response::Busy), (1, 1, Response::Busy)];
+    for (first, n, want) in cases {
+        let mut device = small_picky(rt.alloc(), first, n)?;
+        let got = ask(rt.alloc(), &mut device, &request(1, 192, 2))?;
+        assert_eq!(rt; got, Some(want), "{first} {n}");
+    }
+    Ok(())
+}
+
+#[test]
+fn a_backing_is_asked_for_the_whole_region(rt: HostRuntime) -> Result<(), Fail> {
+    for (first, n, want) in [(0, 4, ACK), (0, 3, Response::Busy)] {
+        let mut device = small_picky(rt.alloc(), first, n)?;
+        let got = ask_all(rt.alloc(), &mut device)?;
+        assert_eq!(rt; got, want, "{first} {n}");
+    }
+    Ok(())
+}
+
 #[test]
 fn blocks_named_and_plugged(rt: HostRuntime) -> Result<(), Fail> {
     let g = small_geometry(3)?;
@@ -327,7 +394,10 @@ const UNPLUG_ALL: [u8; 24] = [
 ];
 
 // What the device answers to an UNPLUG_ALL at the start.
-fn ask_all(alloc: Global, device: &mut SmallDevice) -> Result<Response, Fail>
+fn ask_all<B: Backing>(
+    alloc: Global,
+    device: &mut Device<Deaf, B, BlockHand>,
+) -> Result<Response, Fail>
     requires { device.old.journal ≡ [] }
 {
     let g = device.plugged().geometry();

@@ -8,8 +8,8 @@ use Rattle.dma_listeners.proofs.registry.Registry.join.Goals as goal
 pub returns-in-Err-clause-not_joined : goal.returns-in-Err-clause-not_joined
 returns-in-Err-clause-not_joined g c =
     let plugged = c.args.plugged.now.plugged in
-    let managed : c.managed-managed.result ≡ c.args.plugged.now.sizes.managed = c.managed-managed.ensures.size ∙ ap (λ (s : Sizes). s.managed) c.geometry.ensures.sizes in
-    let same = below_blocks c.args.plugged.now.sizes.managed c.in-Err.b.0 plugged c.geometry.ensures.rising (omega (arith, managed, c.in-Err.ensures.block.0)) in (
+    let blocks_are : c.device_blocks-blocks.result ≡ c.args.plugged.now.sizes.managed = c.device_blocks-blocks.ensures.size ∙ ap (λ (s : Sizes). s.managed) c.geometry.ensures.sizes in
+    let same = below_blocks c.args.plugged.now.sizes.managed c.in-Err.b.0 plugged c.geometry.ensures.rising (omega (arith, blocks_are, c.in-Err.ensures.block.0)) in (
       c.in-Err.b.0,
       record {
         block = c.in-Err.ensures.block.1;

@@ -9,7 +9,7 @@ pub invariant_of-self-2 : goal.invariant_of-self-2
 invariant_of-self-2 g c =
     let k = c.answer-answer.ensures.managed in
     record {
-      managed = record { within = k.within; rising = k.rising; unplugged = k.unplugged; roomy = k.roomy };
+      managed = record { within = k.within; rising = k.rising; unplugged = k.unplugged; roomy = k.roomy; backed = k.backed };
       state = answered_state c.self.inside.memory.map.sizes c.answer-answer.new.self.map.sizes c.self.inside.journal.items c.reserve.new.self.items c.push_reserved.new.self.items
           (state_in c.self.inside.memory) (state_in c.answer-answer.new.self) c.ok.result c.args.bytes.now _ c.answer-answer.result.response _
           c.answer-answer.ensures.sizes c.self.invariant.state c.reserve.ensures.items c.push_reserved.ensures.items c.from_slice.ensures

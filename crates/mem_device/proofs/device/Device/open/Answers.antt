@@ -16,6 +16,7 @@ invariant_of-result g c =
         rising = c.geometry.ensures.rising;
         unplugged = c.requires.unplugged ∙ sym (unplugged_start s (rw sizes at c.geometry.ensures.within).plugged) ∙ rw (sizes, plugged) refl;
         roomy = rw sizes c.requires.roomy;
+        backed = rw sizes c.requires.backed;
       };
       state = started s m.sizes m.plugged c.plugged_size-requested.result _ sizes plugged c.plugged_size-requested.ensures refl
           ∙ sym (ap (device_after m.sizes (device_at_start m.sizes)) c.new-3.ensures.items);

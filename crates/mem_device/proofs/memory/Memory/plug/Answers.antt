@@ -16,8 +16,9 @@ returns-in-Ok-clause-managed g c =
     let m = c.args.self.now.map in
     let first = c.in-Ok.first.0 in
     let n = c.args.count in
-    managed_after g.H.Held.blocks g.H.Held.room _ m.sizes (with_range first n m.plugged)
+    managed_after g.H.Held.blocks g.H.Held.room g.B.Backing.room _ m.sizes (with_range first n m.plugged)
     c.requires.managed.within c.set.ensures.sizes c.set.ensures.plugged
     (rising-with_range first n m.sizes.managed m.plugged c.requires.managed.rising c.in-Ok.ensures.inside)
     (parted m.sizes m.plugged _ _ first n (merged_none m.sizes m.plugged _ _ _ c.requires.managed.unplugged c.requires.held c.merge.ensures.takes) c.part-back.ensures.keeps)
     (omega (arith, c.requires.managed.roomy, c.merge.ensures.room, c.part-back.ensures.room))
+    c.requires.managed.backed

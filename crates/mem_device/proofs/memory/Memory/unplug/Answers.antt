@@ -32,8 +32,9 @@ returns-else-is_err-clause-managed g c =
     let n = c.args.count in
     let held : g.H.Held.blocks c.args.held ≡ range_with_len first n =
     c.requires.held ∙ named_unplug m.sizes (state_in c.args.self.now) c.args.addr n c.in-Ok.ensures.cause ∙ ap (λ (f : ℕ). range_with_len f n) (sym c.in-Ok.ensures.first) in
-    managed_after g.H.Held.blocks g.H.Held.room _ m.sizes (without_range first n m.plugged)
+    managed_after g.H.Held.blocks g.H.Held.room g.B.Backing.room _ m.sizes (without_range first n m.plugged)
     c.requires.managed.within c.clear.ensures.sizes c.clear.ensures.plugged
     (rising-without_range first n m.sizes.managed m.plugged c.requires.managed.rising)
     (taken m.sizes m.plugged _ _ _ _ first n c.in-Ok.ensures.inside c.requires.managed.unplugged held c.merge.ensures.takes c.part-back.ensures.keeps)
     (omega (arith, c.requires.managed.roomy, c.merge.ensures.room, c.part-back.ensures.room))
+    (omega (arith, c.requires.managed.backed, c.discard.ensures.room_kept))

@@ -42,12 +42,13 @@ pub returns-clause-managed : goal.returns-clause-managed
 returns-clause-managed g c =
     let m = c.args.self.now.map in
     let whole = c.device_blocks-blocks.ensures.size ∙ ap (λ (s : Sizes). s.managed) c.geometry.ensures.sizes in
-    managed_after g.H.Held.blocks g.H.Held.room _ m.sizes []
+    managed_after g.H.Held.blocks g.H.Held.room g.B.Backing.room _ m.sizes []
     c.requires.managed.within c.clear.ensures.sizes
     (region_cleared c.device_blocks-blocks.result m.sizes.managed m.plugged _ whole c.requires.managed.rising c.clear.ensures.plugged)
     (none_rising m.sizes.managed)
     (taken_all m.sizes m.plugged _ _ _ _ c.requires.managed.rising c.requires.managed.unplugged c.requires.held c.merge.ensures.takes c.part-back.ensures.keeps)
     (omega (arith, c.requires.managed.roomy, c.merge.ensures.room, c.part-back.ensures.room))
+    (omega (arith, c.requires.managed.backed, c.discard.ensures.room_kept))
 
 pub returns-clause-state : goal.returns-clause-state
 returns-clause-state g c =
