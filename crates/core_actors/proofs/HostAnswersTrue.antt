@@ -30,12 +30,12 @@ use Rattle.evacuate.specs.Tale.{Tale, is_repeated}
 use Rattle.evacuate.specs.UnderWay.{GoesBy, LeasedWasBusy, tale_at, tale_after, GoesOnBy}
 use Rattle.evacuate.proofs.Steps.{goes_on}
 use Rattle.host_work.specs.Evacuated.{space_action}
-use Rattle.host_work.specs.Truth.{stood, driver_did, targets_in, take_number_at, WasOutAt, NoTargetHolds, IsCauseTrue, IsFoundBehind, IsTrueAttempt, AreTrueRounds}
+use Rattle.host_work.specs.Truth.{stood, driver_did, targets_in, take_number_at, WasOutAt, NoTargetHolds, IsFoundBehind, IsTrueAttempt, AreTrueRounds}
 use Rattle.host_work.proofs.TruthGrows.{targets_append, attempts_later}
 use Rattle.machine.specs.World.{Setting, World, space_now}
-use Rattle.core_actors.specs.HostFound.{space_run, DriverFound, evacuation_did, IsTrueAt, HasToldTrue, IsFoundLast}
+use Rattle.core_actors.specs.HostFound.{space_run, DriverFound, evacuation_did, IsTrueEnd, IsTrueAt, HasToldTrue, IsFoundLast}
 use Rattle.core_actors.proofs.HostMakes.{did_more}
-use Rattle.core_actors.proofs.HostRoundsTrue.{longer_adds, take_adds, cause_adds, tried_adds, attempt_adds, rounds_adds, busy_true}
+use Rattle.core_actors.proofs.HostRoundsTrue.{longer_adds, take_adds, end_adds, tried_adds, attempt_adds, rounds_adds, busy_true}
 use Rattle.core_actors.proofs.HostTales.{standing}
 use Rattle.core_actors.proofs.HostTruths.{Adds}
 
@@ -96,8 +96,9 @@ module _ (c : Setting) (w x : World) (e : Evacuating) (t : Tale) (adds : Adds c 
     did_now : actions_of 0 x.space ≡ before ++ now
     did_now = m.made ∙ (ap (λ (l : List SpaceAction). l ++ more) m.told.did ∙ (append_assoc before own more ∙ ap (λ (l : List SpaceAction). before ++ l) m.log))
 
-    cause_still : (why : EvacCause) → IsCauseTrue (space_run c w) (DriverFound w) before e.block own why → IsCauseTrue (space_run c x) (DriverFound x) before e.block now why
-    cause_still why is = cause_adds c w x adds before e.block own more now m.log why is
+    -- an evacuation that fails did this last
+    end_still : (why : EvacCause) → IsTrueEnd (space_run c w) (DriverFound w) before e.block own [] why → IsTrueEnd (space_run c x) (DriverFound x) before e.block now more why
+    end_still why is = end_adds c w x adds before e.block own more now m.log [] more refl why is
 
     rounds_still : AreTrueRounds (space_run c x) (DriverFound x) before e.block now m.told.end (t.attempts ∷ t.rounds)
     rounds_still = rounds_adds c w x adds before e.block own more now m.log m.told.end (t.attempts ∷ t.rounds) m.told.rounds
@@ -132,13 +133,16 @@ module _ (c : Setting) (w x : World) (e : Evacuating) (t : Tale) (adds : Adds c 
   refused : (frame : FrameNo) (page : PageNo) → is_frame_of e.sizes e.block.0 frame.0 ≡ true → IsTrueAnswer c w x e t Isolating (seen.Refused frame page)
       → IsTold c w x e t Isolating (seen.Refused frame page) (standing e (Failed (cause.Unmovable frame page))) t → HasToldTrue c x (standing e (Failed (cause.Unmovable frame page))) t
   refused frame page its is m = told_on m (rounds_still m) (record {
-    in_block = in_sizes frame its;
     holds = record {
-      place = length w.space;
-      inside = longer_adds c w x adds;
-      done = did_there ∙ (m.told.did ∙ append-nil m.told.before);
-      out = ap (λ (st : SpaceState). out_for st frame.0) stood_there ∙ is;
+      in_block = in_sizes frame its;
+      holds = record {
+        place = length w.space;
+        inside = longer_adds c w x adds;
+        done = did_there ∙ (m.told.did ∙ append-nil m.told.before);
+        out = ap (λ (st : SpaceState). out_for st frame.0) stood_there ∙ is;
+      };
     };
+    did = tt;
   })
 
   -- ---- a target was leased
@@ -172,12 +176,18 @@ module _ (c : Setting) (w x : World) (e : Evacuating) (t : Tale) (adds : Adds c 
   no_target : (after : Option FrameNo) (from : FrameNo) (page : PageNo) (at : ℕ) → IsTrueAnswer c w x e t (Leasing after) (seen.NoTarget from page at)
       → IsTold c w x e t (Leasing after) (seen.NoTarget from page at) (standing e (Undoing (cause.NoTarget from page at))) t → HasToldTrue c x (standing e (Undoing (cause.NoTarget from page at))) t
   no_target after from page at is m = told_on m (rounds_still m) (record {
-    in_block = in_sizes from m.goes_by.stands.in_block;
-    holds =
-        subst (λ (n : ℕ). NoTargetHolds (space_run c x) m.told.before e.block (evacuation_did (standing e (Undoing (cause.NoTarget from page at))) t) from page n) (sym is.0) (record {
-          was_out = out_there m from page is.1 is.2;
-          none_free = λ free. subst (λ (st : SpaceState). ¬ IsLeasable c.sizes c.online st Movable free) (sym stood_there) (is.3 free);
-        });
+    holds = record {
+      in_block = in_sizes from m.goes_by.stands.in_block;
+      holds =
+          subst (λ (n : ℕ). NoTargetHolds (space_run c x) m.told.before e.block (evacuation_did (standing e (Undoing (cause.NoTarget from page at))) t) from page n) (sym is.0) (record {
+            was_out = out_there m from page is.1 is.2;
+            none_free = λ free. subst (λ (st : SpaceState). ¬ IsLeasable c.sizes c.online st Movable free) (sym stood_there) (is.3 free);
+          });
+    };
+    did =
+        ap (λ (n : ℕ). driver_did (space_run c x) n ++ []) is.0
+        ∙ (append-nil (driver_did (space_run c x) (length w.space))
+        ∙ (did_there ∙ (m.told.did ∙ ap (λ (l : List SpaceAction). m.told.before ++ l) (sym (append-nil (own m)) ∙ m.log))));
   })
 
   -- ---- a round is over
@@ -198,8 +208,11 @@ module _ (c : Setting) (w x : World) (e : Evacuating) (t : Tale) (adds : Adds c 
   given_up frame lease repeated m =
       let all = rounds_over m.told.before (now m) m.told.end repeated (rounds_still m) in
       told_on m all (record {
-        in_block = in_sizes lease.from m.goes_by.stands.in_block;
-        holds = busy_true (space_run c x) (DriverFound x) m.told.before e.block (now m) lease.from lease.page (over repeated) _ m.told.end m.goes_by.stands.found all;
+        holds = record {
+          in_block = in_sizes lease.from m.goes_by.stands.in_block;
+          holds = busy_true (space_run c x) (DriverFound x) m.told.before e.block (now m) lease.from lease.page (over repeated) _ m.told.end m.goes_by.stands.found all;
+        };
+        did = tt;
       })
 
   with_busy : (frame : Option FrameNo) (lease : MoveLease) (fewer repeated : Bool)
@@ -275,12 +288,15 @@ module _ (c : Setting) (w x : World) (e : Evacuating) (t : Tale) (adds : Adds c 
   by_pinned lease word true m =
       let attempt = made_there lease (Some word) m in
       tried_on lease (Some word) m (record {
-        in_block = in_sizes lease.from m.goes_by.stands.in_block;
         holds = record {
-          place = m.told.stage.place;
-          found = record { target = lease.target; tried = attempt.tried; found = (attempt.word word refl).found };
-          pinned = m.goes_by.stands.found.pinned;
+          in_block = in_sizes lease.from m.goes_by.stands.in_block;
+          holds = record {
+            place = m.told.stage.place;
+            found = record { target = lease.target; tried = attempt.tried; found = (attempt.word word refl).found };
+            pinned = m.goes_by.stands.found.pinned;
+          };
         };
+        did = tt;
       }) refl
   by_pinned lease word false m = tried_on lease (Some word) m tt refl
 
@@ -299,7 +315,7 @@ module _ (c : Setting) (w x : World) (e : Evacuating) (t : Tale) (adds : Adds c 
   told_by (Moving lease) seen.Moved fits is m = came lease None seen.Moved (λ word some. absurd (none-some word some)) m
   told_by (Moving lease) (seen.Found word) fits is m = came lease (Some word) (seen.Found word) (λ other some. subst (λ (n : ℕ). IsFoundLast x t.rounds lease.page n) (same_Some word other some) is) m
   told_by (Returning a) seen.Done fits is m = given_back a.lease a.found m
-  told_by (Undoing why) seen.Done fits is m = told_on m (rounds_still m) (cause_still m why m.told.stage)
+  told_by (Undoing why) seen.Done fits is m = told_on m (rounds_still m) (end_still m why m.told.stage)
   told_by _ _ fits is m = absurd (false≢true fits)
 
 -- Behind a true answer, all that the evacuation was told is true.

@@ -9,7 +9,7 @@ use Rattle.evacuate.specs.Evacuating.{Evacuating}
 use Rattle.evacuate.specs.Tale.{Tale}
 use Rattle.evacuate.specs.UnderWay.{GoesBy}
 use Rattle.host_work.specs.Evacuated.{end_by}
-use Rattle.host_work.specs.Truth.{HasTrueCause, AreTrueRounds}
+use Rattle.host_work.specs.Truth.{HasTrueCause, EndedThere, AreTrueRounds}
 use Rattle.host_work.proofs.TruthGrows.{rounds_later}
 use Rattle.machine.specs.World.{Setting, World}
 use Rattle.core_actors.specs.HostFound.{space_run, DriverFound, truth, evacuation_did, IsTrueAt, HasToldTrue}
@@ -24,7 +24,14 @@ module _ (c : Setting) (x : World) (e : Evacuating) (t : Tale) (done emptying : 
 
   met_by : (cause : Option EvacCause) → IsTrueAt (space_run c x) (DriverFound x) told_true.before e.block own t.rounds told_true.end (end_by cause) → HasTrueCause (space_run c x) (DriverFound x) told_true.before e.block own cause
   met_by None is = tt
-  met_by (Some why) is = is
+  met_by (Some why) is = is.holds
+
+  ended_by : (cause : Option EvacCause) → IsTrueAt (space_run c x) (DriverFound x) told_true.before e.block own t.rounds told_true.end (end_by cause) → EndedThere (space_run c x) told_true.before e.block own cause
+  ended_by None is = tt
+  ended_by (Some why) is = is.did
+
+  at_end : (cause : Option EvacCause) → e.stage ≡ end_by cause → IsTrueAt (space_run c x) (DriverFound x) told_true.before e.block own t.rounds told_true.end (end_by cause)
+  at_end cause ended = subst (λ (s : Stage). IsTrueAt (space_run c x) (DriverFound x) told_true.before e.block own t.rounds told_true.end s) ended told_true.stage
 
   pub true_at_end : e.sizes ≡ c.sizes → GoesBy e t → (cause : Option EvacCause) → e.stage ≡ end_by cause → truth c x (done ++ emptying) e.block cause own
   true_at_end sizes goes_by cause ended = record {
@@ -32,7 +39,6 @@ module _ (c : Setting) (x : World) (e : Evacuating) (t : Tale) (done emptying : 
     attempts =
         subst (λ (l : List SpaceAction). AreTrueRounds (space_run c x) (DriverFound x) l e.block own (length x.space) (t.attempts ∷ t.rounds)) same_before
         (rounds_later (space_run c x) (DriverFound x) told_true.before e.block own told_true.end (length x.space) told_true.inside (t.attempts ∷ t.rounds) told_true.rounds);
-    met =
-        subst (λ (l : List SpaceAction). HasTrueCause (space_run c x) (DriverFound x) l e.block own cause) same_before
-        (met_by cause (subst (λ (s : Stage). IsTrueAt (space_run c x) (DriverFound x) told_true.before e.block own t.rounds told_true.end s) ended told_true.stage));
+    cause_holds = subst (λ (l : List SpaceAction). HasTrueCause (space_run c x) (DriverFound x) l e.block own cause) same_before (met_by cause (at_end cause ended));
+    ended = subst (λ (l : List SpaceAction). EndedThere (space_run c x) l e.block own cause) same_before (ended_by cause (at_end cause ended));
   }

@@ -49,7 +49,7 @@ use Rattle.core_actors.specs.declared.host_place.MovePlace.{MovePlace}
 use Rattle.core_actors.specs.declared.host_place.MovePlace.TheVariants as moves
 use Rattle.core_actors.specs.HostFound.{space_run, takes_of, DriverFound, evacuation_did, IsTrueAt, HasToldTrue, IsTrueMove}
 use Rattle.core_actors.specs.HostSeat.{IsDriver}
-use Rattle.core_actors.proofs.HostRoundsTrue.{longer_adds, take_adds, behind_adds, cause_adds, tried_adds, attempt_adds, rounds_adds, IsMadeIn, all_made}
+use Rattle.core_actors.proofs.HostRoundsTrue.{longer_adds, take_adds, behind_adds, end_adds, tried_adds, attempt_adds, rounds_adds, IsMadeIn, all_made}
 use Rattle.core_actors.proofs.HostTruths.{Adds}
 use Rattle.core_actors.proofs.HostViews.{driver_of, driver_there, driver_stepped, driver_moved}
 
@@ -202,23 +202,23 @@ behind_rounds r finds before b own page word low end (attempts ∷ rounds) holds
 -- The driver made nothing there.
 module _ (c : Setting) (w x : World) (adds : Adds c w x) (same : actions_of 0 x.space ≡ actions_of 0 w.space) where
   module _ (before : List SpaceAction) (b : BlockNo) (own : List SpaceAction) where
-    stage_still : (rounds : List (List Attempt)) (from : ℕ) (stage : Stage) → IsTrueAt (space_run c w) (DriverFound w) before b own rounds from stage → IsTrueAt (space_run c x) (DriverFound x) before b own rounds from stage
-    stage_still rounds from stages.Isolating is = tt
-    stage_still rounds from (stages.Leasing after) is = tt
-    stage_still rounds from (stages.Moving lease) is = record {
+    stage_still : (rounds : List (List Attempt)) (end : ℕ) (stage : Stage) → IsTrueAt (space_run c w) (DriverFound w) before b own rounds end stage → IsTrueAt (space_run c x) (DriverFound x) before b own rounds end stage
+    stage_still rounds end stages.Isolating is = tt
+    stage_still rounds end (stages.Leasing after) is = tt
+    stage_still rounds end (stages.Moving lease) is = record {
       place = is.place;
       behind = is.behind;
       tried = tried_adds c w x adds before b own [] own (append-nil own) lease.from lease.page lease.target is.place is.tried;
       last = ap (λ (n : ℕ). suc n) (take_adds c w x adds is.place is.tried.was_out.inside) ∙ is.last;
     }
-    stage_still rounds from (stages.Returning a) is = record {
+    stage_still rounds end (stages.Returning a) is = record {
       place = is.place;
       behind = is.behind;
       attempt = attempt_adds c w x adds before b own [] own (append-nil own) rounds a is.place is.attempt;
     }
-    stage_still rounds from (stages.Undoing cause) is = cause_adds c w x adds before b own [] own (append-nil own) cause is
-    stage_still rounds from stages.Emptied is = tt
-    stage_still rounds from (stages.Failed cause) is = cause_adds c w x adds before b own [] own (append-nil own) cause is
+    stage_still rounds end (stages.Undoing cause) is = end_adds c w x adds before b own [] own (append-nil own) [] [] refl cause is
+    stage_still rounds end stages.Emptied is = tt
+    stage_still rounds end (stages.Failed cause) is = end_adds c w x adds before b own [] own (append-nil own) (space.Undo b ∷ []) (space.Undo b ∷ []) refl cause is
 
   pub told_still : (e : Evacuating) (t : Tale) → HasToldTrue c w e t → HasToldTrue c x e t
   told_still e t p =

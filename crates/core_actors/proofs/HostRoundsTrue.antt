@@ -1,6 +1,6 @@
 -- What an evacuation was told stays true behind more actions of the frame space. And where it is true of five rounds in which a page was
 -- busy, the five words were found for the page, in that order, each in an attempt of its own.
-use Rattle.std.proofs.Common.{◌≡◌, ℕ, suc, ◌-◌, ◌<◌, ◌≤◌, List, [], ◌∷◌, ◌++◌, length, length-append, map, reverse, refl, sym, ap, ◌∙◌, subst, arith, Some}
+use Rattle.std.proofs.Common.{◌≡◌, ℕ, suc, ◌-◌, ◌<◌, ◌≤◌, List, [], ◌∷◌, ◌++◌, length, length-append, append_assoc, map, reverse, refl, sym, ap, ◌∙◌, subst, arith, Some}
 use Rattle.std.specs.List.{AllByRecursion}
 use Rattle.std.specs.List.Sorted.{IsNonDecreasing}
 use Rattle.std.proofs.lemmas.Grind.{reverse_onto}
@@ -8,6 +8,7 @@ use Rattle.std.proofs.lemmas.List.{map-append, reverse-reverse}
 use Rattle.std.proofs.lemmas.List.Sorted.{IsNonDecreasingBy-push}
 use mathlib.Core.List.{reverse_aux}
 use Rattle.evac_model.specs.declared.evacuation.EvacCause.{EvacCause}
+use Rattle.evac_model.specs.declared.evacuation.EvacCause.TheVariants.{Unmovable, Pinned, NoTarget, Busy}
 use Rattle.evac_model.specs.declared.names.BlockNo.{BlockNo}
 use Rattle.evac_model.specs.declared.names.FrameNo.{FrameNo}
 use Rattle.evac_model.specs.declared.names.PageNo.{PageNo}
@@ -18,10 +19,10 @@ use Rattle.evacuate.specs.declared.stage.Attempt.{Attempt}
 use Rattle.evacuate.specs.Causes.{AreFound, WasBusyInFive}
 use Rattle.evacuate.specs.Tale.{Tale, WasFound}
 use Rattle.evacuate.proofs.Kept.{all_of}
-use Rattle.host_work.specs.Truth.{SpaceRun, take_number_at, Finds, WasTriedAt, AreFoundFrom, BusyHolds, IsCauseTrue, IsNotAbove, AreNotAbove, IsFoundBehind, IsTrueAttempt, AreTrueAttempts, AreTrueRounds}
-use Rattle.host_work.proofs.TruthGrows.{take_number_at_grown, was_tried_grown, found_from, true_grown, attempt_grown, rounds_grown}
+use Rattle.host_work.specs.Truth.{SpaceRun, driver_did, take_number_at, Finds, WasTriedAt, AreFoundFrom, BusyHolds, IsCauseTrue, DidBehind, IsNotAbove, AreNotAbove, IsFoundBehind, IsTrueAttempt, AreTrueAttempts, AreTrueRounds}
+use Rattle.host_work.proofs.TruthGrows.{did_grown, take_number_at_grown, was_tried_grown, found_from, true_grown, attempt_grown, rounds_grown}
 use Rattle.machine.specs.World.{Setting, World}
-use Rattle.core_actors.specs.HostFound.{space_run, DriverFound}
+use Rattle.core_actors.specs.HostFound.{space_run, DriverFound, IsTrueEnd}
 use Rattle.core_actors.proofs.HostTruths.{Adds}
 
 -- ---- behind more actions
@@ -42,11 +43,28 @@ module _ (c : Setting) (w x : World) (adds : Adds c w x) where
 
   -- behind what the evacuation did, and maybe more
   module _ (before : List SpaceAction) (b : BlockNo) (own own_more after : List SpaceAction) (longer : own ++ own_more ≡ after) where
-    pub cause_adds : (why : EvacCause) → IsCauseTrue (space_run c w) (DriverFound w) before b own why → IsCauseTrue (space_run c x) (DriverFound x) before b after why
+    cause_adds : (why : EvacCause) → IsCauseTrue (space_run c w) (DriverFound w) before b own why → IsCauseTrue (space_run c x) (DriverFound x) before b after why
     cause_adds why is =
         subst (λ (l : List SpaceAction). IsCauseTrue (space_run c x) (DriverFound x) before b l why) longer
         (subst (λ (j : List SpaceAction). IsCauseTrue (run_by c j) (DriverFound x) before b (own ++ own_more) why) (sym adds.space)
         (true_grown (space_run c w) adds.more (DriverFound w) (DriverFound x) adds.found before b own own_more why is))
+
+    -- what it did behind the place where no frame was free has what it did besides
+    did_adds : (behind behind_now : List SpaceAction) → behind ++ own_more ≡ behind_now → (why : EvacCause) → IsCauseTrue (space_run c w) (DriverFound w) before b own why → DidBehind (space_run c w) before own behind why → DidBehind (space_run c x) before after behind_now why
+    did_adds behind behind_now same (Unmovable frame page) is did = tt
+    did_adds behind behind_now same (Pinned frame page word) is did = tt
+    did_adds behind behind_now same (NoTarget frame page at) is did =
+        let then : List SpaceAction = driver_did (space_run c w) at in
+        let still : driver_did (space_run c x) at ≡ then = ap (λ (j : List SpaceAction). driver_did (run_by c j) at) adds.space ∙ did_grown (space_run c w) adds.more at is.holds.was_out.inside in
+        ap (λ (l : List SpaceAction). l ++ behind_now) still
+        ∙ (ap (λ (l : List SpaceAction). then ++ l) (sym same)
+        ∙ (sym (append_assoc then behind own_more)
+        ∙ (ap (λ (l : List SpaceAction). l ++ own_more) did
+        ∙ (append_assoc before own own_more ∙ ap (λ (l : List SpaceAction). before ++ l) longer))))
+    did_adds behind behind_now same (Busy frame page words) is did = tt
+
+    pub end_adds : (behind behind_now : List SpaceAction) → behind ++ own_more ≡ behind_now → (why : EvacCause) → IsTrueEnd (space_run c w) (DriverFound w) before b own behind why → IsTrueEnd (space_run c x) (DriverFound x) before b after behind_now why
+    end_adds behind behind_now same why is = record { holds = cause_adds why is.holds; did = did_adds behind behind_now same why is.holds is.did }
 
     pub tried_adds : (frame : FrameNo) (page : PageNo) (target : FrameNo) (place : ℕ) → WasTriedAt (space_run c w) before b own frame page target place → WasTriedAt (space_run c x) before b after frame page target place
     tried_adds frame page target place was =

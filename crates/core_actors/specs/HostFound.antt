@@ -1,10 +1,12 @@
 -- What the evacuation under way found: that what it was told is true of the frame space's journal and of the words that the driver's
 -- takes found.
-use Rattle.std.specs.Prelude.{◌≡◌, ◌≤◌, ℕ, suc, ◌+◌, List, ◌∷◌, ◌++◌, length, slice_get, None, Some, ⊤}
+use Rattle.std.specs.Prelude.{◌≡◌, ◌≤◌, ℕ, suc, ◌+◌, List, [], ◌∷◌, ◌++◌, length, slice_get, None, Some, ⊤}
+use Rattle.evac_model.specs.declared.evacuation.EvacCause.{EvacCause}
 use Rattle.evac_model.specs.declared.evacuation.MoveLease.{MoveLease}
 use Rattle.evac_model.specs.declared.names.BlockNo.{BlockNo}
 use Rattle.evac_model.specs.declared.names.PageNo.{PageNo}
 use Rattle.evac_model.specs.declared.space.SpaceAction.{SpaceAction}
+use Rattle.evac_model.specs.declared.space.SpaceAction.TheVariants as space
 use Rattle.evac_model.specs.Pairing.{actions_of}
 use Rattle.core_state.specs.declared.noticed.Notice.{Notice}
 use Rattle.core_state.specs.Views.{view_of}
@@ -16,7 +18,7 @@ use Rattle.evacuate.specs.Tale.{Tale}
 use Rattle.evacuate.specs.UnderWay.{log_of}
 use Rattle.host_work.specs.Evacuated.{space_actions}
 use Rattle.host_work.specs.Requests.{Evacuates}
-use Rattle.host_work.specs.Truth.{SpaceRun, targets_in, take_number_at, Finds, WasTriedAt, IsCauseTrue, IsFoundBehind, IsTrueAttempt, AreTrueRounds, by_truth}
+use Rattle.host_work.specs.Truth.{SpaceRun, targets_in, take_number_at, Finds, WasTriedAt, IsCauseTrue, DidBehind, IsFoundBehind, IsTrueAttempt, AreTrueRounds, by_truth}
 use Rattle.machine.specs.World.{Setting, World}
 use Rattle.core_actors.specs.declared.host_place.HostPlace.{HostPlace}
 use Rattle.core_actors.specs.declared.host_place.HostPlace.TheVariants as places
@@ -50,27 +52,32 @@ evacuation_did e t = space_actions (log_of e t)
 
 -- Behind the attempts of the round the page of the lease was out in its frame, and its target was leased, the last one that the
 -- driver leased.
-pub record IsTrueMoving (r : SpaceRun) (before : List SpaceAction) (b : BlockNo) (own : List SpaceAction) (from : ℕ) (lease : MoveLease) : Type 0 where
+pub record IsTrueMoving (r : SpaceRun) (before : List SpaceAction) (b : BlockNo) (own : List SpaceAction) (end : ℕ) (lease : MoveLease) : Type 0 where
   pub place : ℕ
-  pub behind : from ≤ place
+  pub behind : end ≤ place
   pub tried : WasTriedAt r before b own lease.from lease.page lease.target place
   pub last : suc (take_number_at r place) ≡ targets_in (before ++ own)
 
 -- the attempt whose frame is to be given back was made behind those of the round
-pub record IsTrueReturning (r : SpaceRun) (finds : Finds) (before : List SpaceAction) (b : BlockNo) (own : List SpaceAction) (rounds : List (List Attempt)) (from : ℕ) (a : Attempt) : Type 0 where
+pub record IsTrueReturning (r : SpaceRun) (finds : Finds) (before : List SpaceAction) (b : BlockNo) (own : List SpaceAction) (rounds : List (List Attempt)) (end : ℕ) (a : Attempt) : Type 0 where
   pub place : ℕ
-  pub behind : from ≤ place
+  pub behind : end ≤ place
   pub attempt : IsTrueAttempt r finds before b own rounds a place
 
+-- the cause is true, and the evacuation did just this behind the place where no frame was free, if that is its cause
+pub record IsTrueEnd (r : SpaceRun) (finds : Finds) (before : List SpaceAction) (b : BlockNo) (own behind : List SpaceAction) (cause : EvacCause) : Type 0 where
+  pub holds : IsCauseTrue r finds before b own cause
+  pub did : DidBehind r before own behind cause
+
 -- with the rounds before the one under way, and the place of the journal before which its attempts were made
-abbrev pub IsTrueAt : SpaceRun → Finds → (before : List SpaceAction) → BlockNo → (own : List SpaceAction) → List (List Attempt) → (from : ℕ) → Stage → Type 0
-IsTrueAt r finds before b own rounds from stages.Isolating = ⊤
-IsTrueAt r finds before b own rounds from (stages.Leasing after) = ⊤
-IsTrueAt r finds before b own rounds from (stages.Moving lease) = IsTrueMoving r before b own from lease
-IsTrueAt r finds before b own rounds from (stages.Returning a) = IsTrueReturning r finds before b own rounds from a
-IsTrueAt r finds before b own rounds from (stages.Undoing cause) = IsCauseTrue r finds before b own cause
-IsTrueAt r finds before b own rounds from stages.Emptied = ⊤
-IsTrueAt r finds before b own rounds from (stages.Failed cause) = IsCauseTrue r finds before b own cause
+abbrev pub IsTrueAt : SpaceRun → Finds → (before : List SpaceAction) → BlockNo → (own : List SpaceAction) → List (List Attempt) → (end : ℕ) → Stage → Type 0
+IsTrueAt r finds before b own rounds end stages.Isolating = ⊤
+IsTrueAt r finds before b own rounds end (stages.Leasing after) = ⊤
+IsTrueAt r finds before b own rounds end (stages.Moving lease) = IsTrueMoving r before b own end lease
+IsTrueAt r finds before b own rounds end (stages.Returning a) = IsTrueReturning r finds before b own rounds end a
+IsTrueAt r finds before b own rounds end (stages.Undoing cause) = IsTrueEnd r finds before b own [] cause
+IsTrueAt r finds before b own rounds end stages.Emptied = ⊤
+IsTrueAt r finds before b own rounds end (stages.Failed cause) = IsTrueEnd r finds before b own (space.Undo b ∷ []) cause
 
 -- Behind what the driver had done before, the evacuation did what its log says, and what it was told is true: the attempts that
 -- count were made before a place of the journal.

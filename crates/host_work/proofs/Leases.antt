@@ -1,5 +1,5 @@
 -- An evacuation leases a target for each attempt of its tale.
-use Rattle.std.proofs.Common.{◌≡◌, ◌≢◌, ℕ, ◌+◌, List, [], ◌∷◌, ◌++◌, length, refl, ap, ◌∙◌, arith, Option, None, Some}
+use Rattle.std.proofs.Common.{◌≡◌, ◌≢◌, ℕ, ◌+◌, List, [], ◌∷◌, ◌++◌, length, refl, sym, ap, ◌∙◌, subst, arith, Option, None, Some}
 use Rattle.std.proofs.lemmas.Grind.{flat_map-append}
 use Rattle.std.proofs.lemmas.List.Sums.{sum_by-cons}
 use Rattle.evac_model.specs.declared.evacuation.EvacCause.{EvacCause}
@@ -7,15 +7,15 @@ use Rattle.evac_model.specs.declared.evacuation.EvacCause.TheVariants.{Unmovable
 use Rattle.evac_model.specs.declared.evacuation.MoveLease.{MoveLease}
 use Rattle.evac_model.specs.declared.names.BlockNo.{BlockNo}
 use Rattle.evac_model.specs.declared.names.FrameNo.{FrameNo}
-use Rattle.evac_model.specs.declared.names.PageNo.{PageNo}
 use Rattle.evac_model.specs.declared.space.SpaceAction.{SpaceAction}
-use Rattle.evac_model.specs.Geometry.{Sizes}
+use Rattle.evac_model.specs.declared.space.SpaceAction.TheVariants as space
 use Rattle.evacuate.specs.declared.stage.Attempt.{Attempt}
 use Rattle.evacuate.specs.declared.stage.Stage.{Stage}
+use Rattle.evacuate.specs.Evacuating.{Evacuating}
 use Rattle.evacuate.specs.Tale.{Exchange, Tale, last_frame, attempt_log, attempts_log, round_end, rounds_log, tale_log}
-use Rattle.evacuate.specs.UnderWay.{led_to, failed_log, log_at}
-use Rattle.host_work.specs.Evacuated.{space_action, space_actions, end_by, WasEvacuated}
-use Rattle.host_work.specs.Truth.{targets_in, tried_in}
+use Rattle.evacuate.specs.UnderWay.{led_to, log_at}
+use Rattle.host_work.specs.Evacuated.{space_action, space_actions, end_by}
+use Rattle.host_work.specs.Truth.{SpaceRun, targets_in, Finds, tried_in, AreTrueRounds, by_truth}
 use Rattle.host_work.proofs.TruthGrows.{targets_append}
 
 -- how many targets were leased by what was asked and told
@@ -66,18 +66,29 @@ undone_behind b t cause undo none =
     let both = leased_append (tale_log b t ++ led_to b t cause) (undo ∷ []) in
     omega (arith, both, none, behind_tale b t (led_to b t cause) (none_led b t cause))
 
-leased_failing : (b : BlockNo) (t : Tale) (cause : EvacCause) → ((frame : FrameNo) (page : PageNo) → cause ≢ Unmovable frame page) → leased_in (failed_log b t cause) ≡ tried_in (t.attempts ∷ t.rounds)
-leased_failing b t (Unmovable frame page) other = absurd (other frame page refl)
-leased_failing b t (Pinned frame page word) other = undone_behind b t (Pinned frame page word) _ refl
-leased_failing b t (NoTarget frame page at) other = undone_behind b t (NoTarget frame page at) _ refl
-leased_failing b t (Busy frame page words) other = undone_behind b t (Busy frame page words) _ refl
+-- one whose isolation was refused leased none, and made no attempt
+none_behind : (part more : List SpaceAction) (a : SpaceAction) → [] ≢ part ++ a ∷ more
+none_behind [] more a is = absurd (cc)
+none_behind (x ∷ part) more a is = absurd (cc)
 
-leased_at_end : (b : BlockNo) (t : Tale) (cause : Option EvacCause) → ((frame : FrameNo) (page : PageNo) → cause ≢ Some (Unmovable frame page)) → leased_in (log_at b t (end_by cause)) ≡ tried_in (t.attempts ∷ t.rounds)
-leased_at_end b t None other = behind_tale b t (round_end b t.attempts ∷ []) refl
-leased_at_end b t (Some cause) other = leased_failing b t cause (λ frame page same. other frame page (ap (λ (x : EvacCause). Some x) same))
+none_tried : (r : SpaceRun) (F : Finds) (before : List SpaceAction) (b : BlockNo) (end : ℕ) (rounds : List (List Attempt)) → AreTrueRounds r F before b [] end rounds → tried_in rounds ≡ 0
+none_tried r F before b end [] all = refl
+none_tried r F before b end ([] ∷ rounds) all = omega (arith, sum_by-cons (λ (l : List Attempt). length l) [] rounds, none_tried r F before b all.0 rounds all.2)
+none_tried r F before b end ((a ∷ attempts) ∷ rounds) all =
+    let at = all.1.2.tried in
+    absurd (none_behind at.was_out.part at.more (space.MoveLease a.lease.target a.lease.page) (at.was_out.parts ∙ ap (λ (l : List SpaceAction). at.was_out.part ++ l) at.next))
 
-pub leased_for_each : (s : Sizes) (b : BlockNo) (cause : Option EvacCause) (actions : List SpaceAction) (h : WasEvacuated s b cause actions) → ((frame : FrameNo) (page : PageNo) → cause ≢ Some (Unmovable frame page)) → targets_in actions ≡ tried_in (h.tale.attempts ∷ h.tale.rounds)
-leased_for_each s b cause actions h other =
-    ap (λ (l : List SpaceAction). targets_in l) h.made
-    ∙ (ap (λ (st : Stage). leased_in (log_at h.evacuation.block h.tale st)) h.ended
-    ∙ leased_at_end h.evacuation.block h.tale cause other)
+module _ (r : SpaceRun) (F : Finds) (before : List SpaceAction) (b : BlockNo) (own : List SpaceAction) where
+  by_cause : (cause : Option EvacCause) (e : Evacuating) (t : Tale) → AreTrueRounds r F before b own (length r.journal) (t.attempts ∷ t.rounds) → own ≡ space_actions (log_at e.block t (end_by cause)) → targets_in own ≡ tried_in (t.attempts ∷ t.rounds)
+  by_cause None e t all made = ap (λ (l : List SpaceAction). targets_in l) made ∙ behind_tale e.block t (round_end e.block t.attempts ∷ []) refl
+  by_cause (Some (Unmovable frame page)) e t all made =
+      ap (λ (l : List SpaceAction). targets_in l) made
+      ∙ sym (none_tried r F before b (length r.journal) (t.attempts ∷ t.rounds) (subst (λ (l : List SpaceAction). AreTrueRounds r F before b l (length r.journal) (t.attempts ∷ t.rounds)) made all))
+  by_cause (Some (Pinned frame page word)) e t all made = ap (λ (l : List SpaceAction). targets_in l) made ∙ undone_behind e.block t (Pinned frame page word) _ refl
+  by_cause (Some (NoTarget frame page at)) e t all made = ap (λ (l : List SpaceAction). targets_in l) made ∙ undone_behind e.block t (NoTarget frame page at) _ refl
+  by_cause (Some (Busy frame page words)) e t all made = ap (λ (l : List SpaceAction). targets_in l) made ∙ undone_behind e.block t (Busy frame page words) _ refl
+
+  pub leased_for_each : (cause : Option EvacCause) (h : by_truth r F before b cause own) → targets_in own ≡ tried_in (h.told.tale.attempts ∷ h.told.tale.rounds)
+  leased_for_each cause h =
+      by_cause cause h.told.evacuation h.told.tale h.attempts
+      (h.told.made ∙ ap (λ (st : Stage). space_actions (log_at h.told.evacuation.block h.told.tale st)) h.told.ended)

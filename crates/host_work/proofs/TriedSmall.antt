@@ -1,8 +1,9 @@
 -- Attempts of a small machine's evacuations that were made, and some that weren't.
-use Rattle.std.proofs.Common.{◌≡◌, ℕ, zero, suc, ◌+◌, ◌<◌, ◌≤◌, List, [], ◌∷◌, ◌++◌, length, replicate, refl, sym, ap, subst, arith, inl, inr, ◌⊎◌, None, Some, Option}
+use Rattle.std.proofs.Common.{◌≡◌, ℕ, zero, suc, ◌+◌, ◌<◌, ◌≤◌, List, [], ◌∷◌, ◌++◌, length, replicate, refl, sym, ap, ◌∙◌, subst, arith, inl, inr, ◌⊎◌, None, Some, Option}
 use Rattle.std.proofs.lemmas.Option.{same_Some}
 use Rattle.std.specs.List.{AllByRecursion}
 use Rattle.std.specs.Prelude.{slice_get, ⊤}
+use Rattle.evac_model.specs.declared.evacuation.EvacCause.TheVariants.{NoTarget}
 use Rattle.evac_model.specs.declared.names.FrameNo.{FrameNo}
 use Rattle.evac_model.specs.declared.names.Kind.TheVariants.{Unmovable}
 use Rattle.evac_model.specs.declared.names.PageNo.{PageNo}
@@ -10,12 +11,12 @@ use Rattle.evac_model.specs.declared.space.SpaceAction.{SpaceAction}
 use Rattle.evac_model.specs.declared.space.SpaceAction.TheVariants.{MoveLease, Return}
 use Rattle.evac_words.specs.Word.{bound_of}
 use Rattle.evacuate.specs.Examples.{frame_no, page_no, page_0}
-use Rattle.host_work.specs.Examples.{isolate, attempt}
+use Rattle.host_work.specs.Examples.{isolate, undo, offline, attempt}
 use Rattle.host_work.specs.Requests.{block_no}
-use Rattle.host_work.specs.Truth.{SpaceRun, driver_did, take_number_at, Finds, WasTriedAt, AreNotAbove, AreTrueRounds, by_truth}
-use Rattle.host_work.specs.TruthExamples.{run_with, word_of_calls, found_by, one_attempt, five_attempts, block_3_emptied, taken_at_first, taken_behind_pin, pinned_behind_pin, five_words, newest_first, another_in_the_third, rounds_with, round_moving, AreMadeBy}
+use Rattle.host_work.specs.Truth.{SpaceRun, driver_did, take_number_at, Finds, WasTriedAt, AreNotAbove, AreTrueRounds, EndedThere, by_truth}
+use Rattle.host_work.specs.TruthExamples.{run_with, word_of_calls, found_by, one_attempt, five_attempts, block_3_emptied, taken_at_first, taken_behind_pin, pinned_behind_pin, five_words, newest_first, another_in_the_third, rounds_with, round_moving, busy_in, two_moves, moved_0, moved_5, AreRoundOfTwo, AreMadeBySecond, AreMadeBy}
 use Rattle.host_work.proofs.Small.{moved}
-use Rattle.host_work.proofs.TruthSmall.{pinned_word, taken_word, five_run, tried_in_five, tried_first, leased_once}
+use Rattle.host_work.proofs.TruthSmall.{pinned_word, taken_word, five_run, tried_in_five, tried_first, leased_once, not_out_in_21}
 
 -- ---- five rounds
 
@@ -184,7 +185,8 @@ emptied = record {
     ),
     tt,
   );
-  met = tt;
+  cause_holds = tt;
+  ended = tt;
 }
 
 -- ---- what wasn't made
@@ -231,8 +233,116 @@ in_second place h = elim (leased_in_two place (frame_no 0) (page_no 0) h.leased)
   | inr second ↦ second
 ]
 
-pub not_over_two : ¬ AreTrueRounds two_run word_of_calls one_attempt (block_no 3) one_attempt (length (one_attempt ++ one_attempt)) (rounds_with (replicate 2 taken_at_first))
+pub by_second : AreMadeBySecond (rounds_with (taken_at_first ∷ []))
+by_second = (
+  5,
+  (
+    5,
+    omega arith,
+    record {
+      tried = record {
+        was_out = record { inside = omega arith; part = isolate 3 ∷ []; rest = attempt 0 ++ undo 3 ∷ []; parts = refl; done = refl; isolated = refl; out = refl };
+        more = Return 0 (frame_no 0) ∷ undo 3 ∷ [];
+        next = refl;
+        leased = refl;
+      };
+      word = λ other found. record { found = subst (λ (w : ℕ). word_of_calls 0 (page_no 0) w) (same_Some taken_at_first other found) taken_word; late = tt };
+    },
+    omega arith,
+  ),
+  tt,
+)
+
+pub not_over_two : ¬ AreMadeBySecond (rounds_with (replicate 2 taken_at_first))
 not_over_two h =
     let second = h.1 in
     let first = h.2.1 in
     absurd (omega (arith, in_second second.0 second.2.tried, in_second first.0 first.2.tried, first.1, second.3))
+
+pub not_in_frame_21 : ¬ AreMadeBy word_of_calls one_attempt (busy_in 21 taken_at_first)
+not_in_frame_21 h =
+    let at = h.1.2.tried.was_out in
+    let out : None ≡ Some _ = sym (not_out_in_21 h.1.0 at.inside) ∙ at.out in
+    cc
+
+pub not_falling : ¬ AreMadeBy word_of_calls five_attempts (rounds_with (taken_at_first ∷ taken_behind_pin ∷ []))
+not_falling h =
+    let late = (h.1.2.word taken_at_first refl).late in
+    let low : 1 ≤ 0 = late.0.0 taken_behind_pin refl refl in
+    absurd (omega (arith, low))
+
+pub not_inside : ¬ EndedThere (run_with Unmovable one_attempt) [] (block_no 3) one_attempt (Some (NoTarget (frame_no 20) (page_no 0) 2))
+not_inside did = let long : 3 ≡ 4 = ap (λ (l : List SpaceAction). length l) did in absurd (omega (arith, long))
+
+-- ---- two pages
+
+pub two_made : AreRoundOfTwo (moved_5 ∷ moved_0 ∷ [])
+two_made = (
+  1,
+  (
+    3,
+    omega arith,
+    record {
+      tried = record {
+        was_out = record {
+          inside = omega arith;
+          part = isolate 3 ∷ MoveLease (frame_no 0) (page_no 0) ∷ Return 0 (frame_no 20) ∷ [];
+          rest = MoveLease (frame_no 1) (page_no 5) ∷ Return 0 (frame_no 22) ∷ offline 3 ∷ [];
+          parts = refl;
+          done = refl;
+          isolated = refl;
+          out = refl;
+        };
+        more = Return 0 (frame_no 22) ∷ offline 3 ∷ [];
+        next = refl;
+        leased = refl;
+      };
+      word = λ word found. absurd (cc);
+    },
+    (
+      1,
+      omega arith,
+      record {
+        tried = record {
+          was_out = record {
+            inside = omega arith;
+            part = isolate 3 ∷ [];
+            rest = MoveLease (frame_no 0) (page_no 0) ∷ Return 0 (frame_no 20) ∷ MoveLease (frame_no 1) (page_no 5) ∷ Return 0 (frame_no 22) ∷ offline 3 ∷ [];
+            parts = refl;
+            done = refl;
+            isolated = refl;
+            out = refl;
+          };
+          more = Return 0 (frame_no 20) ∷ MoveLease (frame_no 1) (page_no 5) ∷ Return 0 (frame_no 22) ∷ offline 3 ∷ [];
+          next = refl;
+          leased = refl;
+        };
+        word = λ word found. absurd (cc);
+      },
+      omega arith,
+    ),
+  ),
+  tt,
+)
+
+-- the lease for page 0 is the second action, that for page 5 the fourth
+leased_for : (place : ℕ) (target : FrameNo) (page : PageNo) → slice_get two_moves place ≡ Some (MoveLease target page) → ((place ≡ 1) × (0 ≡ page.0)) ⊎ ((place ≡ 3) × (5 ≡ page.0))
+leased_for zero target page is = absurd (cc)
+leased_for (suc zero) target page is = inl (refl, ap page_in is)
+leased_for (suc (suc zero)) target page is = absurd (cc)
+leased_for (suc (suc (suc zero))) target page is = inr (refl, ap page_in is)
+leased_for (suc (suc (suc (suc zero)))) target page is = absurd (cc)
+leased_for (suc (suc (suc (suc (suc zero))))) target page is = absurd (cc)
+leased_for (suc (suc (suc (suc (suc (suc n)))))) target page is = absurd (cc)
+
+pub not_turned_round : ¬ AreRoundOfTwo (moved_0 ∷ moved_5 ∷ [])
+not_turned_round h =
+    let late = h.1 in
+    let early = late.3 in
+    elim (leased_for late.0 (frame_no 0) (page_no 0) late.2.tried.leased) [
+      | inl first ↦ elim (leased_for early.0 (frame_no 1) (page_no 5) early.2.tried.leased) [
+        | inl wrong ↦ absurd (omega (arith, wrong.1))
+        | inr third ↦ absurd (omega (arith, first.0, third.0, early.1))
+      ]
+      | inr wrong ↦ absurd (omega (arith, wrong.1))
+    ]

@@ -29,7 +29,7 @@ use Rattle.evacuate.specs.declared.stage.Attempt.{Attempt}
 use Rattle.host_work.specs.Commands.{IsDoneBy, AreDoneBy}
 use Rattle.host_work.specs.Evacuated.{WasEvacuated}
 use Rattle.host_work.specs.Requests.{Evacuates, block_no, blocks_to_empty, AreTakenAway, WasSent, WasNotSent}
-use Rattle.host_work.specs.Truth.{SpaceRun, stood, driver_did, is_target, targets_in, take_number_at, Finds, WasOutAt, WasTriedAt, WasFoundAt, UnmovableHolds, NoTargetHolds, AreFoundFrom, HoldsFor, IsCauseTrue, HasTrueCause, IsFoundBehind, IsTrueAttempt, AreTrueAttempts, AreTrueRounds, by_truth}
+use Rattle.host_work.specs.Truth.{SpaceRun, stood, driver_did, is_target, targets_in, take_number_at, Finds, WasOutAt, WasTriedAt, WasFoundAt, UnmovableHolds, NoTargetHolds, AreFoundFrom, HoldsFor, IsCauseTrue, HasTrueCause, DidBehind, EndedThere, IsFoundBehind, IsTrueAttempt, AreTrueAttempts, AreTrueRounds, by_truth}
 
 -- the same frame space with more in its journal
 abbrev pub grown : SpaceRun → List SpaceAction → SpaceRun
@@ -192,11 +192,23 @@ made_grown r more F G finds before b own rounds h =
     rounds_later (grown r more) G before b own (length r.journal) (length (r.journal ++ more)) (omega (arith, length-append r.journal more)) rounds
     (subst (λ (l : List SpaceAction). AreTrueRounds (grown r more) G before b l (length r.journal) rounds) (append-nil own) (rounds_grown r more F G finds before b own [] (length r.journal) rounds h))
 
+-- the place where no frame was free stays
+pub behind_grown_by : (r : SpaceRun) (more : List SpaceAction) (F : Finds) (before : List SpaceAction) (b : BlockNo) (own behind : List SpaceAction) (cause : EvacCause) → IsCauseTrue r F before b own cause → DidBehind r before own behind cause → DidBehind (grown r more) before own behind cause
+behind_grown_by r more F before b own behind (Unmovable frame page) is did = tt
+behind_grown_by r more F before b own behind (Pinned frame page word) is did = tt
+behind_grown_by r more F before b own behind (NoTarget frame page at) is did = ap (λ (l : List SpaceAction). l ++ behind) (did_grown r more at is.holds.was_out.inside) ∙ did
+behind_grown_by r more F before b own behind (Busy frame page words) is did = tt
+
+ended_grown : (r : SpaceRun) (more : List SpaceAction) (F : Finds) (before : List SpaceAction) (b : BlockNo) (cause : Option EvacCause) (own : List SpaceAction) → HasTrueCause r F before b own cause → EndedThere r before b own cause → EndedThere (grown r more) before b own cause
+ended_grown r more F before b None own is did = tt
+ended_grown r more F before b (Some cause) own is did = behind_grown_by r more F before b own (space.Undo b ∷ []) cause is did
+
 pub truth_grown : (r : SpaceRun) (more : List SpaceAction) (F G : Finds) → FindsMore F G → (before : List SpaceAction) (b : BlockNo) (cause : Option EvacCause) (own : List SpaceAction) → by_truth r F before b cause own → by_truth (grown r more) G before b cause own
 truth_grown r more F G finds before b cause own h = record {
   told = h.told;
   attempts = made_grown r more F G finds before b own (h.told.tale.attempts ∷ h.told.tale.rounds) h.attempts;
-  met = cause_grown r more F G finds before b cause own h.met;
+  cause_holds = cause_grown r more F G finds before b cause own h.cause_holds;
+  ended = ended_grown r more F before b cause own h.cause_holds h.ended;
 }
 
 not_grown : (r : SpaceRun) → grown r [] ≡ r

@@ -236,7 +236,7 @@ without_target_in_full = record {
 -- ---- causes that aren't true
 
 -- frame 21 was out at no place
-not_out_in_21 : (place : ℕ) → place ≤ 4 → out_for (stood (run_with Unmovable one_attempt) place) 21 ≡ None
+pub not_out_in_21 : (place : ℕ) → place ≤ 4 → out_for (stood (run_with Unmovable one_attempt) place) 21 ≡ None
 not_out_in_21 zero l = refl
 not_out_in_21 (suc zero) l = refl
 not_out_in_21 (suc (suc zero)) l = refl

@@ -18,7 +18,7 @@ use Rattle.evac_model.specs.declared.tried.TriedResult.TheVariants as results
 
 -- What an evacuation of a block with that end may have done to the frame space, behind what the driver had done there
 -- before. It is `by_tale` for one mover that moves page by page, by itself; other movers have other rounds. A report judges by
--- `by_truth`, which says besides that the cause is true of its journal and its history.
+-- `by_truth`, which says besides that each attempt was made and the cause is true, by its journal and its history.
 abbrev pub Evacuates : Type 1
 Evacuates = (before : List SpaceAction) → BlockNo → Option EvacCause → List SpaceAction → Type 0
 

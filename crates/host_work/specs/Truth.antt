@@ -176,12 +176,26 @@ AreTrueRounds r finds before b own end (attempts ∷ rounds) =
     × AreTrueAttempts r finds before b own rounds begin end attempts
     × AreTrueRounds r finds before b own begin rounds
 
+-- What the evacuation did behind the place where no frame was free, if that is its cause: it ended at once.
+abbrev pub DidBehind : SpaceRun → (before own behind : List SpaceAction) → EvacCause → Type 0
+DidBehind r before own behind (Unmovable frame page) = ⊤
+DidBehind r before own behind (Pinned frame page word) = ⊤
+DidBehind r before own behind (NoTarget frame page at) = driver_did r at ++ behind ≡ before ++ own
+DidBehind r before own behind (Busy frame page words) = ⊤
+
+-- nothing but the undo of its isolation
+abbrev pub EndedThere : SpaceRun → (before : List SpaceAction) → BlockNo → (own : List SpaceAction) → Option EvacCause → Type 0
+EndedThere r before b own None = ⊤
+EndedThere r before b own (Some cause) = DidBehind r before own (space.Undo b ∷ []) cause
+
 -- An evacuation of the block went by a tale of what it was told, to its end. Each attempt of the tale was made, at a place of the
--- journal of its own, in the tale's order, and found what is told of it; and a cause that the evacuation failed for is true.
+-- journal of its own, in the tale's order, and a word that is told of it was found by its take; and a cause that the evacuation
+-- failed for is true. That a page was moved is said by the tale, and by the frame that came back.
 pub record WasTrulyEvacuated (r : SpaceRun) (finds : Finds) (before : List SpaceAction) (b : BlockNo) (cause : Option EvacCause) (own : List SpaceAction) : Type 0 where
   pub told : WasEvacuated r.sizes b cause own
   pub attempts : AreTrueRounds r finds before b own (length r.journal) (told.tale.attempts ∷ told.tale.rounds)
-  pub met : HasTrueCause r finds before b own cause
+  pub cause_holds : HasTrueCause r finds before b own cause
+  pub ended : EndedThere r before b own cause
 
 abbrev pub by_truth : SpaceRun → Finds → Evacuates
 by_truth r finds before b cause own = WasTrulyEvacuated r finds before b cause own

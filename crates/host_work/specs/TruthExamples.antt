@@ -9,6 +9,7 @@ use Rattle.evac_model.specs.declared.names.Kind.TheVariants.{Movable, Unmovable}
 use Rattle.evac_model.specs.declared.reply.Reply.TheVariants.{Done}
 use Rattle.evac_model.specs.declared.scenario.StartPage.{StartPage}
 use Rattle.evac_model.specs.declared.space.SpaceAction.{SpaceAction}
+use Rattle.evac_model.specs.declared.space.SpaceAction.TheVariants.{MoveLease, Return}
 use Rattle.evac_model.specs.PairingExamples.{entry, start_page, full, full_start}
 use Rattle.evac_model.specs.SpaceJournal.{space_at_start}
 use Rattle.evac_model.specs.State.{start_state}
@@ -17,7 +18,7 @@ use Rattle.evacuate.specs.Examples.{frame_no, page_no, lease_of, found_busy}
 use Rattle.host_work.specs.Examples.{plugged_machine, isolate, undo, offline, online, attempt, pinned, no_target, busy, unmovable}
 use Rattle.host_work.specs.FoundWords.{AreWordsOf}
 use Rattle.host_work.specs.Requests.{block_no}
-use Rattle.host_work.specs.Truth.{SpaceRun, Finds, IsCauseTrue, AreTrueRounds, by_truth}
+use Rattle.host_work.specs.Truth.{SpaceRun, Finds, IsCauseTrue, AreTrueRounds, EndedThere, by_truth}
 
 -- page 0 lies in frame 20, of block 3, and page 7, of that kind, in frame 16, of block 2
 abbrev pub start_with : Kind → List StartPage
@@ -134,11 +135,37 @@ rounds_with words = map (λ word. found_busy word ∷ []) words
 abbrev pub round_moving : (page : ℕ) → List (List Attempt)
 round_moving page = (record { lease = lease_of 20 page 0; found = None } ∷ []) ∷ []
 
+-- page 0 was busy in a round, in that frame
+abbrev pub busy_in : (frame word : ℕ) → List (List Attempt)
+busy_in frame word = (record { lease = lease_of frame 0 0; found = Some word } ∷ []) ∷ []
+
+-- block 3 was emptied of two pages: page 0 moved from frame 20 to frame 0, and then page 5 from frame 22 to frame 1
+abbrev pub two_moves : List SpaceAction
+two_moves = isolate 3 ∷ MoveLease (frame_no 0) (page_no 0) ∷ Return 0 (frame_no 20) ∷ MoveLease (frame_no 1) (page_no 5) ∷ Return 0 (frame_no 22) ∷ offline 3 ∷ []
+
+abbrev pub run_of_two_pages : SpaceRun
+run_of_two_pages =
+    record (run_with Unmovable two_moves) { start = space_at_start plugged_machine (start_page 0 20 Movable ∷ start_page 5 22 Movable ∷ []) }
+
+abbrev pub moved_0 : Attempt
+moved_0 = record { lease = lease_of 20 0 0; found = None }
+
+abbrev pub moved_5 : Attempt
+moved_5 = record { lease = lease_of 22 5 1; found = None }
+
+-- those attempts are a round of it, the newest first
+abbrev pub AreRoundOfTwo : List Attempt → Type 0
+AreRoundOfTwo attempts = AreTrueRounds run_of_two_pages (found_by []) [] (block_no 3) two_moves (length two_moves) (attempts ∷ [])
+
+-- the second of two evacuations, each with one lease, made those rounds
+abbrev pub AreMadeBySecond : List (List Attempt) → Type 0
+AreMadeBySecond rounds = AreTrueRounds (run_with Unmovable (one_attempt ++ one_attempt)) word_of_calls one_attempt (block_no 3) one_attempt (length (one_attempt ++ one_attempt)) rounds
+
 -- the evacuation of block 3, which was all that the frame space saw, made those rounds
 abbrev pub AreMadeBy : Finds → List SpaceAction → List (List Attempt) → Type 0
 AreMadeBy finds journal rounds = AreTrueRounds (run_with Unmovable journal) finds [] (block_no 3) journal (length journal) rounds
 
-pub record CausesOfSmall : Type 0 where
+pub record EvacuationsOfSmall : Type 0 where
   pub pinned_page : by_truth (run_with Unmovable one_attempt) word_of_calls [] (block_no 3) (Some pinned) one_attempt
   pub five_busy_rounds : by_truth (run_with Unmovable five_attempts) word_of_calls [] (block_no 3) (Some busy) five_attempts
   -- page 0 was moved, and no take found a word of it
@@ -177,7 +204,14 @@ pub record CausesOfSmall : Type 0 where
   pub word_of_no_take : ¬ AreMadeBy (found_by five_words) five_attempts (rounds_with another_in_the_third)
   pub one_lease_in_two_rounds : ¬ AreMadeBy word_of_calls one_attempt (rounds_with (replicate 2 taken_at_first))
   pub lease_for_another_page : ¬ AreMadeBy word_of_calls one_attempt (round_moving 1)
-  -- the first of the two leases is of the evacuation before
-  pub over_two_evacuations :
-      ¬ AreTrueRounds (run_with Unmovable (one_attempt ++ one_attempt)) word_of_calls one_attempt (block_no 3) one_attempt (length (one_attempt ++ one_attempt))
-      (rounds_with (replicate 2 taken_at_first))
+  -- the page was never out in that frame
+  pub attempt_in_another_frame : ¬ AreMadeBy word_of_calls one_attempt (busy_in 21 taken_at_first)
+  -- the word of the first round has a bound above that of the second one's
+  pub rounds_with_falling_bounds : ¬ AreMadeBy word_of_calls five_attempts (rounds_with (taken_at_first ∷ taken_behind_pin ∷ []))
+  pub two_pages_in_a_round : AreRoundOfTwo (moved_5 ∷ moved_0 ∷ [])
+  pub the_other_order : ¬ AreRoundOfTwo (moved_0 ∷ moved_5 ∷ [])
+  -- of the two leases the first is of the evacuation before
+  pub of_the_second_evacuation : AreMadeBySecond (rounds_with (taken_at_first ∷ []))
+  pub over_two_evacuations : ¬ AreMadeBySecond (rounds_with (replicate 2 taken_at_first))
+  -- inside its own attempt an evacuation holds a target itself: that no frame is free there is no cause
+  pub inside_its_own_attempt : ¬ EndedThere (run_with Unmovable one_attempt) [] (block_no 3) one_attempt (Some (cause.NoTarget (frame_no 20) (page_no 0) 2))

@@ -26,8 +26,8 @@ ghost use Rattle.host_work.specs.Evacuated.{WasEvacuated, by_tale};
 ghost use Rattle.host_work.specs.Examples.{CommandsOfSmall};
 ghost use Rattle.host_work.specs.FoundWords.{AreWordsOf};
 ghost use Rattle.host_work.specs.PlainCommands.{IsPlain, onlines_of, host_actions, host_lines, host_onlines};
-ghost use Rattle.host_work.specs.Truth.{SpaceRun, targets_in, IsCauseTrue, tried_in, by_truth};
-ghost use Rattle.host_work.specs.TruthExamples.{CausesOfSmall};
+ghost use Rattle.host_work.specs.Truth.{SpaceRun, targets_in, tried_in, by_truth};
+ghost use Rattle.host_work.specs.TruthExamples.{EvacuationsOfSmall};
 
 /// A request that unplugs nothing is one answer of the device, and then the blocks that it plugged are put online: no
 /// evacuation is made.
@@ -59,10 +59,10 @@ pub fn failed_evacuations_are_undone()
     ensures refused { (s : Sizes) (b : BlockNo) (frame : FrameNo) (page : PageNo) (actions : List SpaceAction) → WasEvacuated s b (Some (EvacCause.Unmovable frame page)) actions → actions ≡ [] }
 {}
 
-/// An evacuation leased a target for each attempt of its tale, and for nothing else, but for one whose isolation was refused. Since
-/// each attempt of a true one was made at a lease of its own, its tale has an attempt for each target that it leased.
+/// An evacuation that is true leased as many targets as its tale has attempts: since each attempt was made at a lease of its own,
+/// it leased none for anything else.
 pub fn evacuations_lease_a_target_for_each_attempt()
-    ensures { (s : Sizes) (b : BlockNo) (cause : Option EvacCause) (actions : List SpaceAction) (h : WasEvacuated s b cause actions) → ((frame : FrameNo) (page : PageNo) → cause ≢ Some (EvacCause.Unmovable frame page)) → targets_in actions ≡ tried_in (h.tale.attempts ∷ h.tale.rounds) }
+    ensures { (r : SpaceRun) (s : Sizes) (start : PlainState) (entries : List Entry) (before : List SpaceAction) (b : BlockNo) (cause : Option EvacCause) (own : List SpaceAction) (h : by_truth r (AreWordsOf s start entries) before b cause own) → targets_in own ≡ tried_in (h.told.tale.attempts ∷ h.told.tale.rounds) }
 {}
 
 /// Commands of a small machine, worked out by hand: what is reported of each, and what was done.
@@ -75,12 +75,12 @@ pub fn what_is_done_by_truth_is_done_by_tale()
     ensures { (r : SpaceRun) (s : Sizes) (start : PlainState) (entries : List Entry) (before : List SpaceAction) (d : DeviceState) (runs : List HostRun) (actions : List SpaceAction) (device : List DeviceAction) → AreDoneBy (by_truth r (AreWordsOf s start entries)) before s d runs actions device → AreDoneBy (by_tale r.sizes) before s d runs actions device }
 {}
 
-/// A cause that is true of a frame space's journal is true of each longer one.
-pub fn true_causes_stay_true()
-    ensures { (r : SpaceRun) (more : List SpaceAction) (s : Sizes) (start : PlainState) (entries : List Entry) (before : List SpaceAction) (b : BlockNo) (own : List SpaceAction) (cause : EvacCause) → IsCauseTrue r (AreWordsOf s start entries) before b own cause → IsCauseTrue (record r { journal = r.journal ++ more }) (AreWordsOf s start entries) before b own cause }
+/// An evacuation that is true of a frame space's journal is true of each longer one.
+pub fn true_evacuations_stay_true()
+    ensures { (r : SpaceRun) (more : List SpaceAction) (s : Sizes) (start : PlainState) (entries : List Entry) (before : List SpaceAction) (b : BlockNo) (cause : Option EvacCause) (own : List SpaceAction) → by_truth r (AreWordsOf s start entries) before b cause own → by_truth (record r { journal = r.journal ++ more }) (AreWordsOf s start entries) before b cause own }
 {}
 
 /// Evacuations of a small machine, worked out by hand: attempts and causes that are true, and some that aren't.
-pub fn causes_of_a_small_machine()
-    ensures { CausesOfSmall }
+pub fn evacuations_of_a_small_machine()
+    ensures { EvacuationsOfSmall }
 {}

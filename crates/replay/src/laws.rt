@@ -36,9 +36,8 @@ pub fn no_mapped_page_is_unplugged()
         mapped_bit (entry_word_of w.snapshot.words page) ≡ 1 → is_frame_in s.geometry (unplugged_now (setting s) w) (frame_of (entry_word_of w.snapshot.words page)) ≡ false) }
 {}
 
-/// At every moment of a run, whatever turns were made, the driver has taken a page for each target that it leased, but for one that
-/// is still to be taken: so its takes are numbered as these leases are, and an evacuation that is true of the run names the take of
-/// each word by the number of a lease of its own.
+/// At every moment of a run, whatever turns were made, the driver has made as many takes as it leased targets, less the one that is
+/// still to be made. So the take for a target is numbered by the leases of targets before it (`by_truth`).
 pub fn takes_go_with_leases()
     ensures { (s : Scenario) (turns : List Actor) → IsRunnable s
         → (let m : Running = after_turns (setting s) (running_at_start s) turns in

@@ -64,10 +64,10 @@ pub record AreFramesTold (s : Scenario) (r : Report) : Type 0 where
   pub no_unplugged : (frame : ℕ) → is_frame_in s.geometry (space_reported s r).offline frame ≡ true → out_for (space_reported s r) frame ≡ None
 
 -- The host's commands are reported in their order, numbered from 0, each with what it gave and the blocks that it tried. One
--- after another they did all that the driver did to the frame space, and all that the device did. Each cause of an evacuation
--- that failed is true of the frame space's journal and of the history reported. Each response is the device's answer by the
--- actions before it, where the listed calls of the backing fail, and no listener was told of any. The plugged blocks are those
--- that the device's actions leave.
+-- after another they did all that the driver did to the frame space, and all that the device did. Each evacuation is true
+-- of the frame space's journal and of the history reported, its attempts and, where it failed, its cause. Each response is the
+-- device's answer by the actions before it, where the listed calls of the backing fail, and no listener was told of any. The
+-- plugged blocks are those that the device's actions leave.
 pub record AreHostAndDeviceTold (s : Scenario) (r : Report) : Type 0 where
   pub commands : map (λ x. x.command) r.host ≡ s.host
   pub numbers : map (λ x. x.line.no) r.host ≡ range_with_len 0 (length s.host)
