@@ -1,5 +1,5 @@
 -- The lists of blocks that a host makes: a range, and the plugged blocks, one more at a time.
-use Rattle.std.proofs.Common.{◌≡◌, ℕ, zero, suc, ◌+◌, ◌*◌, ◌<◌, ◌≤◌, Bool, true, false, cond, List, [], ◌∷◌, ◌++◌, length, drop, get_or, refl, sym, ap, ◌∙◌, subst, arith}
+use Rattle.std.proofs.Common.{◌≡◌, ℕ, zero, suc, ◌+◌, ◌*◌, ◌<◌, ◌≤◌, Bool, true, false, cond, List, [], ◌∷◌, ◌++◌, length, drop, get_or, append-nil, refl, sym, ap, ◌∙◌, subst, arith}
 use Rattle.std.specs.List.{filter, range_with_len, AllByRecursion}
 use Rattle.std.proofs.lemmas.List.Elements.{filter-append}
 use Rattle.std.proofs.lemmas.Nat.{mul-add-lt}
@@ -24,17 +24,13 @@ range_grows a n m j e more xs is = ap (λ (ys : List ℕ). ys ++ j ∷ []) is �
 one_passes : (test : ℕ → Bool) (n : ℕ) → numbers_where test (n + 1) ≡ numbers_where test n ++ cond (test n) (n ∷ []) []
 one_passes test n = ap (λ (xs : List ℕ). filter test xs) (range_more 0 n n (omega arith)) ∙ filter-append test (range_with_len 0 n) (n ∷ [])
 
-append_none : (xs : List ℕ) → xs ++ [] ≡ xs
-append_none [] = refl
-append_none (x ∷ xs) = ap (λ (ys : List ℕ). x ∷ ys) (append_none xs)
-
 pub passes_more : (test : ℕ → Bool) (n : ℕ) (xs : List ℕ) → xs ≡ numbers_where test n → test n ≡ true → xs ++ n ∷ [] ≡ numbers_where test (n + 1)
 passes_more test n xs is t =
     ap (λ (ys : List ℕ). ys ++ n ∷ []) is ∙ sym (one_passes test n ∙ ap (λ (b : Bool). numbers_where test n ++ cond b (n ∷ []) []) t)
 
 pub passes_not : (test : ℕ → Bool) (n : ℕ) (xs : List ℕ) → xs ≡ numbers_where test n → test n ≡ false → xs ≡ numbers_where test (n + 1)
 passes_not test n xs is f =
-    is ∙ sym (one_passes test n ∙ (ap (λ (b : Bool). numbers_where test n ++ cond b (n ∷ []) []) f ∙ append_none (numbers_where test n)))
+    is ∙ sym (one_passes test n ∙ (ap (λ (b : Bool). numbers_where test n ++ cond b (n ∷ []) []) f ∙ append-nil (numbers_where test n)))
 
 -- ---- each of them is below a bound
 

@@ -1,6 +1,7 @@
 -- What the machine gives on an action that an evacuation asks for is an answer to it; and while its block is isolated, a page that
 -- is leased a target was busy in the round before.
-use Rattle.std.proofs.Common.{◌≡◌, ◌<◌, Bool, true, ◌&&◌, nat_lt, refl, sym, ap, ◌∙◌, subst, arith, Option, Some, None}
+use Rattle.std.proofs.Common.{◌≡◌, ◌<◌, true, nat_lt, refl, sym, subst, arith, Option, Some, None}
+use Rattle.std.proofs.lemmas.Bool.{and_from}
 use Rattle.std.proofs.lemmas.Bool.Decides.{nat_tests}
 use Rattle.evac_model.specs.declared.names.BlockNo.{BlockNo}
 use Rattle.evac_model.specs.declared.names.FrameNo.{FrameNo}
@@ -24,15 +25,12 @@ use Rattle.core_actors.specs.Hosts.{HostState, evac_action}
 
 -- ---- the next frame
 
-both : (x y : Bool) → x ≡ true → y ≡ true → (x && y) ≡ true
-both x y h g = ap (λ (t : Bool). t && y) h ∙ g
-
 -- the frame whose page gets a target is the block's next one that is out
 pub next_is_next : (s : Sizes) (st : SpaceState) (b : BlockNo) (after : Option FrameNo) (found : FrameNo × PageNo) → next_out s st b.0 after ≡ Some found → is_next s b after (found.0).0 ≡ true
-next_is_next s st b None found e = both (is_frame_of s b.0 (found.0).0) true (next_is_out s st b.0 None found e).0 refl
+next_is_next s st b None found e = and_from (is_frame_of s b.0 (found.0).0) true (next_is_out s st b.0 None found e).0 refl
 next_is_next s st b (Some last) found e =
     let behind : last.0 < (found.0).0 = next_is_behind s st b.0 last found e in
-    both (is_frame_of s b.0 (found.0).0) (nat_lt last.0 (found.0).0) (next_is_out s st b.0 (Some last) found e).0 (grind (arith, nat_tests))
+    and_from (is_frame_of s b.0 (found.0).0) (nat_lt last.0 (found.0).0) (next_is_out s st b.0 (Some last) found e).0 (grind (arith, nat_tests))
 
 -- ---- what is told
 

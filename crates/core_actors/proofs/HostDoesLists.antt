@@ -218,7 +218,7 @@ module _ (c : Setting) (y w : World) (runs : List HostRun) (done : List SpaceAct
 
 -- ---- the end of a command
 
-no_run : (left : List HostCommand) → run_list left None ≡ []
+pub no_run : (left : List HostCommand) → run_list left None ≡ []
 no_run [] = refl
 no_run (command ∷ left) = refl
 

@@ -1,9 +1,9 @@
 -- The driver's seat may make the next action of a host.
-use Rattle.std.proofs.Common.{◌≡◌, ◌≢◌, ◌⊎◌, ℕ, ◌-◌, ◌<◌, ◌≤◌, ◌&&◌, ◌||◌, ◌==◌, Bool, true, false, not, List, [], ◌∷◌, drop, get_or, refl, sym, ap, ◌∙◌, subst, arith, Option, None, Some, IsSome, is_some, inl, inr}
+use Rattle.std.proofs.Common.{◌≡◌, ◌≢◌, ℕ, ◌-◌, ◌<◌, ◌&&◌, ◌||◌, ◌==◌, Bool, true, false, List, [], ◌∷◌, drop, get_or, refl, sym, ap, ◌∙◌, subst, arith, Option, None, Some, IsSome, is_some, inl, inr}
 use Rattle.std.specs.Prelude.{IsSomeAnd}
 use Rattle.std.specs.List.{AllByRecursion, count_by}
 use Rattle.std.proofs.Math.Bool.{and-false, or-true}
-use Rattle.std.proofs.lemmas.Bool.{false≢true, eq-eqb, cases_lt}
+use Rattle.std.proofs.lemmas.Bool.{false≢true, eq-eqb}
 use Rattle.std.proofs.lemmas.List.{get_or-replicate}
 use Rattle.evac_model.specs.declared.evacuation.MoveLease.{MoveLease}
 use Rattle.evac_model.specs.declared.host.HostCommand.{HostCommand}
@@ -14,12 +14,10 @@ use Rattle.evac_model.specs.declared.names.Kind.{Kind}
 use Rattle.evac_model.specs.declared.names.Kind.TheVariants.{Movable}
 use Rattle.evac_model.specs.declared.names.PageNo.{PageNo}
 use Rattle.evac_model.specs.DeviceAnswer.{request_in, unplugged_blocks}
-use Rattle.evac_model.specs.DeviceBlocks.{device_blocks}
 use Rattle.evac_model.specs.Geometry.{Sizes}
 use Rattle.evac_model.specs.Numbers.{is_in}
 use Rattle.evac_model.specs.Page.{kind_of}
 use Rattle.evac_model.specs.SpaceJournal.{Out, out_for, IsEmptied}
-use Rattle.evac_model.proofs.Numbers.{is_in-numbers_where, is_in-numbers_where_past}
 use Rattle.core_state.specs.declared.hand.HandFrame.{HandFrame}
 use Rattle.core_state.specs.declared.held.Held.{Held}
 use Rattle.core_state.specs.declared.keeper.Keeper.TheVariants.{OneOwner}
@@ -33,6 +31,7 @@ use Rattle.evac_words.specs.Word.{mapped_bit, unmovable_bit, bit_of}
 use Rattle.evacuate.specs.declared.stage.Stage.{Stage}
 use Rattle.evacuate.specs.declared.stage.Stage.TheVariants as stages
 use Rattle.evacuate.specs.Evacuating as evacuating
+use Rattle.mem_device.proofs.Hands.{plugged_apart}
 use Rattle.machine.specs.Consistent.{IsSetting, IsConsistent}
 use Rattle.machine.specs.declared.action.Action.TheVariants as actions
 use Rattle.machine.specs.MayMake.{MayMake}
@@ -72,13 +71,6 @@ not_out m x is none = let both : Some x ≡ None = sym is ∙ none in absurd (cc
 movable_kind : (n : ℕ) → unmovable_bit n ≡ 0 → kind_in n ≡ Movable
 movable_kind n e = ap (λ (b : Bool). kind_of b) (eq-eqb (unmovable_bit n) 0 e)
 
-plugged_not_unplugged : (s : Sizes) (plugged : List ℕ) (b : ℕ) → is_in b plugged ≡ true → is_in b (unplugged_blocks s plugged) ≡ false
-plugged_not_unplugged s plugged b has = by_place (cases_lt b (device_blocks s))
-  where
-    by_place : (b < device_blocks s) ⊎ (device_blocks s ≤ b) → is_in b (unplugged_blocks s plugged) ≡ false
-    by_place (inl l) = is_in-numbers_where (λ x. not (is_in x plugged)) (device_blocks s) b l ∙ ap (λ (t : Bool). not t) has
-    by_place (inr g) = is_in-numbers_where_past (λ x. not (is_in x plugged)) (device_blocks s) b g
-
 module _ (c : Setting) (w : World) (runs : List HostRun) (h : HostState) (set : IsSetting c) (kept : IsConsistent c w) (k : HostKept c w runs h) where
   abbrev v : View
   v = view_of w.snapshot.views 0
@@ -113,7 +105,7 @@ module _ (c : Setting) (w : World) (runs : List HostRun) (h : HostState) (set : 
     is_plugged = plugged_in h.left (ap (λ (l : List ℕ). is_in b l) (sym e.blocks) ∙ in_blocks)
 
     not_offline : is_in b (space_now c w).offline ≡ false
-    not_offline = kept.offline b ∙ both (is_in b (unplugged_blocks c.sizes (device_now c w).plugged)) (is_held c w b) (plugged_not_unplugged c.sizes (device_now c w).plugged b is_plugged) (k.space.held b ∙ not_away)
+    not_offline = kept.offline b ∙ both (is_in b (unplugged_blocks c.sizes (device_now c w).plugged)) (is_held c w b) (plugged_apart c.sizes (device_now c w).plugged b is_plugged) (k.space.held b ∙ not_away)
       where
         both : (x y : Bool) → x ≡ false → y ≡ false → (x || y) ≡ false
         both x y p q = ap (λ (z : Bool). z || y) p ∙ q

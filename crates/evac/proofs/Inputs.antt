@@ -1,10 +1,6 @@
 -- What the bytes that were read say of the bytes that the source had.
-use Rattle.std.proofs.Common.{◌≡◌, ℕ, List, [], ◌∷◌, ◌++◌, Option, None, Some, IfSome, refl, ap, ◌∙◌}
+use Rattle.std.proofs.Common.{append-nil, ◌≡◌, ℕ, List, [], ◌∷◌, ◌++◌, Option, None, Some, IfSome, refl, ap, ◌∙◌}
 use Rattle.evac_io.specs.Told.{Gives, IsAtEnd}
-
-append_nothing : (xs : List ℕ) → xs ++ [] ≡ xs
-append_nothing [] = refl
-append_nothing (x ∷ xs) = ap (λ r. x ∷ r) (append_nothing xs)
 
 same_inside : (o : Option (List ℕ)) (bytes : List ℕ) → o ≡ Some bytes → IfSome o (λ b. b ≡ bytes)
 same_inside None bytes e = tt
@@ -18,7 +14,7 @@ none_inside (Some b) P e = absurd (cc)
 pub all_given : (old new : Option (List ℕ)) (bytes : List ℕ) → Gives old new bytes → IsAtEnd new → IfSome old (λ b. b ≡ bytes)
 all_given old None bytes g end = none_inside old _ g
 all_given old (Some rest) bytes g end =
-    same_inside old bytes (g ∙ ap Some (ap (λ r. bytes ++ r) end ∙ append_nothing bytes))
+    same_inside old bytes (g ∙ ap Some (ap (λ r. bytes ++ r) end ∙ append-nil bytes))
 
 -- what follows from the bytes that there were
 pub of_told : (o : Option (List ℕ)) (bytes : List ℕ) (Q : List ℕ → Type 0) → IfSome o (λ b. b ≡ bytes) → ((b : List ℕ) → b ≡ bytes → Q b) → IfSome o Q

@@ -2,26 +2,26 @@
 use Rattle.std.proofs.Common.{◌≡◌, ℕ, ◌+◌, ◌*◌, ◌<◌, ◌≤◌, true, false, not, ◌&&◌, ◌||◌, List, [], length, Option, Some, refl, sym, ap, ◌∙◌, arith, inl, inr}
 use Rattle.std.specs.List.{range_with_len}
 use Rattle.std.proofs.lemmas.Bool.{cases_lt, and_parts}
-use Rattle.std.proofs.lemmas.Nat.{mul-le}
 use Rattle.std.proofs.lemmas.List.{nil_from_length}
 use Rattle.evac_model.specs.declared.device.Request.TheVariants.{Unplug, UnplugAll}
 use Rattle.evac_model.specs.declared.device.Response.TheVariants.{Ack}
 use Rattle.evac_model.specs.Geometry.{Sizes, IsWithinLimits, block_bytes}
 use Rattle.evac_model.specs.Numbers.{is_in, is_between, united, with_range, without_range, IsRisingBelow}
 use Rattle.evac_model.specs.DeviceAnswer.{DeviceState, block_at, is_good_range, are_plugged, are_unplugged, state_answer}
-use Rattle.evac_model.proofs.Bounds.{power_to_512_least}
 use Rattle.evac_model.proofs.Numbers.{numbers_where-none}
 use Rattle.evac_model.proofs.Ranges.{between_below, between_above}
 use Rattle.block_map.specs.Blocks.{state_told}
 use Rattle.block_map.proofs.States.{all_plugged, none_plugged}
 use Rattle.evac_model.specs.Counts.{Calls}
 use Rattle.evac_model.specs.DeviceAnswer.{unplugged_blocks, named_blocks, asks_backing}
+use Rattle.dma_listeners.proofs.Bytes.{bytes_some}
+use Rattle.dma_listeners.proofs.Ends.{without_all}
 use Rattle.mem_device.specs.Answering.{IsAnswer}
 use Rattle.mem_device.specs.Managed.{IsManaged}
 use Rattle.mem_device.specs.declared.memory.Memory.{Memory}
 use Rattle.evac_model.proofs.Members.{is_in-range_with_len}
 use Rattle.evac_model.proofs.Unions.{with_range-below, without_none, numbers-range}
-use Rattle.mem_device.proofs.Hands.{is_in-unplugged, hand_with-range, hand_with-all, hand_with-none, hand_without-range, without_region}
+use Rattle.mem_device.proofs.Hands.{is_in-unplugged, hand_with-range, hand_with-all, hand_with-none, hand_without-range}
 use Rattle.mem_device.proofs.Ranges.{size_none}
 
 -- no blocks are rising
@@ -56,7 +56,7 @@ taken_all s plugged hand held merged left rising h r m l =
 
 -- the region is cleared
 pub region_cleared : (n m : ℕ) (plugged after : List ℕ) → n ≡ m → IsRisingBelow m plugged → after ≡ without_range 0 n plugged → after ≡ []
-region_cleared n m plugged after e r a = a ∙ ap (λ (k : ℕ). without_range 0 k plugged) e ∙ without_region m plugged r
+region_cleared n m plugged after e r a = a ∙ ap (λ (k : ℕ). without_range 0 k plugged) e ∙ without_all m plugged r
 
 -- the blocks that come with an UNPLUG that gets as far as the backing
 pub named_unplug : (s : Sizes) (d : DeviceState) (addr count : ℕ) → asks_backing s d (Some (Unplug addr count)) ≡ true → named_blocks s d.plugged (Some (Unplug addr count)) ≡ range_with_len (block_at s addr) count
@@ -77,11 +77,8 @@ range_plugged plugged first n b all h =
     ]
 
 -- no block is plugged where no byte is
-bytes_pos : (s : Sizes) → IsWithinLimits s → 0 < block_bytes s
-bytes_pos s w = mul-le 1 1 (s.cells * 8) s.block (omega (arith, power_to_512_least s.cells w.cells)) (power_to_512_least s.block w.block)
-
 pub no_bytes : (s : Sizes) (plugged : List ℕ) → IsWithinLimits s → length plugged * block_bytes s ≡ 0 → plugged ≡ []
-no_bytes s plugged w e = nil_from_length plugged (size_none (length plugged) (block_bytes s) (bytes_pos s w) e)
+no_bytes s plugged w e = nil_from_length plugged (size_none (length plugged) (block_bytes s) (bytes_some s w) e)
 
 -- an UNPLUG_ALL where nothing is plugged
 pub answer_none : (s : Sizes) (d : DeviceState) (faults : ℕ) (told : Option Calls) → d.plugged ≡ [] → IsAnswer s d (Some UnplugAll) faults faults told (Ack 0)
@@ -102,6 +99,6 @@ state_good s d addr count first state good f e = rw (good, e, f) refl
 -- a set of a machine's blocks with just a range
 pub only_range : (first n m : ℕ) (before mid after : List ℕ) → first + n ≤ m → IsRisingBelow m before → mid ≡ without_range 0 m before → after ≡ with_range first n mid → after ≡ range_with_len first n
 only_range first n m before mid after inside r e a =
-    a ∙ ap (with_range first n) (e ∙ without_region m before r)
+    a ∙ ap (with_range first n) (e ∙ without_all m before r)
     ∙ with_range-below first n m [] (λ b h. refl) inside
     ∙ numbers-range (λ b. is_in b [] || is_between first (first + n) b) first n m inside (λ b l. refl)

@@ -2,15 +2,15 @@
 use Rattle.std.proofs.Common.{◌≡◌, ℕ, ◌+◌, ◌-◌, ◌<◌, ◌≤◌, Bool, true, false, not, ◌&&◌, ◌||◌, List, [], refl, sym, ap, ◌∙◌, arith, inl, inr}
 use Rattle.std.specs.List.{range_with_len}
 use Rattle.std.proofs.lemmas.Bool.{cases_lt}
-use Rattle.std.proofs.Math.Bool.{and-false, or-false, not-or_self}
+use Rattle.std.proofs.Math.Bool.{or-false, not-or_self}
 use Rattle.evac_model.specs.Geometry.{Sizes}
 use Rattle.evac_model.specs.Numbers.{is_in, is_between, united, with_range, without_range, IsRisingBelow}
 use Rattle.evac_model.proofs.Ranges.{between_inside, between_below, between_above}
-use Rattle.evac_model.proofs.Numbers.{numbers_agree, is_in-numbers_where, is_in-numbers_where_past, numbers_where-none}
+use Rattle.evac_model.proofs.Numbers.{numbers_agree, is_in-numbers_where, is_in-numbers_where_past}
 use Rattle.evac_model.specs.DeviceAnswer.{unplugged_blocks}
 use Rattle.evac_model.proofs.Booleans.{or_not, and_not}
 use Rattle.evac_model.proofs.Members.{is_in-range_with_len}
-use Rattle.evac_model.proofs.Unions.{united_below, is_in-with_range, is_in-without_range, without_range-below, without_range-numbers, numbers-range, rising_past, range_past}
+use Rattle.evac_model.proofs.Unions.{united_below, is_in-with_range, is_in-without_range, without_range-numbers, numbers-range, rising_past, range_past}
 
 -- which blocks the hand has
 pub is_in-unplugged : (s : Sizes) (plugged : List ℕ) (b : ℕ) → b < s.managed → is_in b (unplugged_blocks s plugged) ≡ not (is_in b plugged)
@@ -58,15 +58,6 @@ hand_without-range s plugged first n =
     ∙ numbers_agree (λ b. not (is_in b plugged) && not (is_between first (first + n) b)) (λ b. not (is_in b (with_range first n plugged))) s.managed (λ b l.
     and_not (is_in b plugged) (is_between first (first + n) b)
     ∙ ap not (sym (is_in-with_range first n plugged b)))
-
--- the whole region is unplugged
-pub without_region : (m : ℕ) (plugged : List ℕ) → IsRisingBelow m plugged → without_range 0 m plugged ≡ []
-without_region m plugged r =
-    without_range-below 0 m m plugged r
-    ∙ numbers_where-none (λ b. is_in b plugged && not (is_between 0 (0 + m) b)) m (λ b. elim (cases_lt b m) [
-      | inl l ↦ ap (λ (t : Bool). is_in b plugged && not t) (between_inside 0 (0 + m) b (omega arith) (omega arith)) ∙ and-false (is_in b plugged)
-      | inr g ↦ ap (λ (t : Bool). t && not (is_between 0 (0 + m) b)) (rising_past m plugged r b g)
-    ])
 
 -- the hand at the start has the blocks above the plugged ones
 pub unplugged_start : (s : Sizes) → s.plugged ≤ s.managed → unplugged_blocks s (range_with_len 0 s.plugged) ≡ range_with_len s.plugged (s.managed - s.plugged)

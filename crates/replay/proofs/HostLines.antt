@@ -31,6 +31,7 @@ use Rattle.core_actors.specs.HostDid.{run_list}
 use Rattle.core_actors.specs.HostHears.{HostHeard, command_ended, ends_without, with_result, result_in, held_behind, answered, seen_in, goes_on_at, told, moves_on, stays, found, came_of, moved, marked_on, heard_at, heard_for, host_after, line_after}
 use Rattle.core_actors.specs.Hosts.{HostState, away, with_next_block, next_block, command_begun, command_blocks, host_at_start}
 use Rattle.core_actors.specs.Places.{word_in}
+use Rattle.core_actors.proofs.HostDoesLists.{no_run}
 use Rattle.replay.specs.Running.{line_list}
 
 -- ---- the start of a command leaves the commands
@@ -136,10 +137,6 @@ module _ (plugged : List ℕ) where
 pub runs_none : (commands : List HostCommand) → host_runs commands [] ≡ []
 runs_none [] = refl
 runs_none (c ∷ cs) = refl
-
-no_run : (left : List HostCommand) → run_list left None ≡ []
-no_run [] = refl
-no_run (c ∷ cs) = refl
 
 one_more : (commands : List HostCommand) (lines : List HostLine) (line : HostLine) → host_runs commands (lines ++ line ∷ []) ≡ host_runs commands lines ++ run_list (drop (length lines) commands) (Some line)
 one_more [] lines line = sym (ap (λ (left : List HostCommand). run_list left (Some line)) (drop-nil (length lines)))

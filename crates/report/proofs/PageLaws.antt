@@ -1,5 +1,5 @@
 -- The final pages are the plain state, by rising number.
-use Rattle.std.proofs.Common.{◌≡◌, ℕ, zero, suc, ◌<◌, ◌≤◌, nat_lt, true, false, cond, nat_eq, List, [], ◌∷◌, ◌++◌, length, map, slice_index, None, Some, refl, sym, ap, subst, ◌∙◌, arith}
+use Rattle.std.proofs.Common.{append-nil, ◌≡◌, ℕ, zero, suc, ◌<◌, ◌≤◌, nat_lt, true, false, cond, nat_eq, List, [], ◌∷◌, ◌++◌, length, map, slice_index, None, Some, refl, sym, ap, subst, ◌∙◌, arith}
 use Rattle.std.specs.Ordering.{nat_cmp}
 use Rattle.std.specs.FinMap.{find, get-from_entries, same_map, nat_cmp-IsAntisymmetric}
 use Rattle.std.specs.FinMap.Entries.{find-append}
@@ -17,14 +17,10 @@ use Rattle.report.specs.FinalPages.{final_page, pages_below, plain_page, pages_s
 abbrev pub numbered : List FinalPage → List (ℕ × PlainPage)
 numbered pages = map (λ p. (p.page.0, plain_page p)) pages
 
-append_nothing : {X : Type 0} (xs : List X) → xs ++ [] ≡ xs
-append_nothing [] = refl
-append_nothing (x ∷ xs) = ap (λ r. x ∷ r) (append_nothing xs)
-
 -- one more page, where its number is new
 find-more : (xs : List FinalPage) (n q : ℕ) (m : Page) → find nat_cmp n (numbered xs) ≡ None → find nat_cmp q (numbered (xs ++ final_page n m)) ≡ cond (nat_eq q n) m (find nat_cmp q (numbered xs))
 find-more xs n q None new =
-    ap (λ ys. find nat_cmp q (numbered ys)) (append_nothing xs)
+    ap (λ ys. find nat_cmp q (numbered ys)) (append-nil xs)
     ∙ elim (nat_eq q n) as (λ b. nat_eq q n ≡ b → find nat_cmp q (numbered xs) ≡ cond b None (find nat_cmp q (numbered xs))) [
       | true ↦ λ t. let same : q ≡ n = grind (arith, nat_tests) in ap (λ k. find nat_cmp k (numbered xs)) same ∙ new
       | false ↦ λ t. refl
@@ -73,7 +69,7 @@ below-push ns n below k b = grind (arith, common_steps, below k)
 
 rising-more : (xs : List FinalPage) (n : ℕ) (m : Page) → IsStrictlyIncreasing (numbers xs) → ((k : ℕ) → k < length (numbers xs) → slice_index (numbers xs) k < n) → IsStrictlyIncreasing (numbers (xs ++ final_page n m)) × ((k : ℕ) → k < length (numbers (xs ++ final_page n m)) → slice_index (numbers (xs ++ final_page n m)) k < suc n)
 rising-more xs n None h below =
-    subst (λ ys. IsStrictlyIncreasing (numbers ys) × ((k : ℕ) → k < length (numbers ys) → slice_index (numbers ys) k < suc n)) (sym (append_nothing xs)) (h, λ k b. omega (arith, below k b))
+    subst (λ ys. IsStrictlyIncreasing (numbers ys) × ((k : ℕ) → k < length (numbers ys) → slice_index (numbers ys) k < suc n)) (sym (append-nil xs)) (h, λ k b. omega (arith, below k b))
 rising-more xs n (Some m) h below =
     subst (λ ns. IsStrictlyIncreasing ns × ((k : ℕ) → k < length ns → slice_index ns k < suc n)) (sym (map-append (λ (p : FinalPage). p.page.0) xs (final_page n (Some m))))
     (rising-push (numbers xs) n h below, below-push (numbers xs) n below)
